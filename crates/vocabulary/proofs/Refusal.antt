@@ -2,10 +2,10 @@
 use Prim.Native.Nat.{ℕ}
 use native.Mathlib.Omega.{arith}
 use mathlib.Core.Path.{_≡_, refl, sym, ap, _∙_}
-use mathlib.Core.Bool.{Bool, true, false}
+use mathlib.Core.Bool.{Bool, true, false, cond}
 use lib.Dec.{eqb}
 use mathlib.Core.List.{List, [], _∷_, _++_}
-use Rattle.vocabulary.specs.Refusal.{Refusal, number, order, Row, _when_, due, choose, firstDue, refusalOf, lentLength, outOfRange, standing}
+use Rattle.vocabulary.specs.Refusal.{Refusal, number, order, Row, _when_, due, firstDue, refusalOf, lentLength, outOfRange, standing}
 
 -- none of these is due
 abbrev pub None : (Refusal → Bool) → List Refusal → Type 0
@@ -26,7 +26,7 @@ abbrev pub Clear : List Row → Type 0
 Clear [] = Unit
 Clear ((r when b) ∷ rows) = (b ≡ false) × Clear rows
 
-chosen : (t : Bool) {b c : Bool} → b ≡ false → c ≡ false → choose t b c ≡ false
+chosen : (t : Bool) {b c : Bool} → b ≡ false → c ≡ false → cond t b c ≡ false
 chosen true e f = e
 chosen false e f = f
 

@@ -3,18 +3,13 @@ use Rattle.vocabulary.proofs.Table.{table-rule}
 use borrow.Author.Needs.{needs}
 use Rattle.expand.proofs.eight.Statement.{statement}
 use Rattle.expand.proofs.eight.Tie as tie
-use Rattle.expand.proofs.eight.Reads as reads
-use Rattle.expand.proofs.eight.Lts as lts
 
--- src/lib.rt:24:5
 mul-result : tie.Need-mul-result
 mul-result c = search needs
 
--- src/lib.rt:24:5
 array-read-result : tie.Need-array-read-result
 array-read-result c = search needs
 
--- src/lib.rt:21:1
 returns : tie.Need-returns
 unfolding ten
 returns c = table-rule (ten 8) 256 (c .args .v) (search needs)

@@ -5,23 +5,16 @@ use Rattle.expand.proofs.Width.{expansion-refused, expansion-accepted}
 use borrow.Author.Needs.{needs}
 use Rattle.expand.proofs.expand6.Statement.{statement}
 use Rattle.expand.proofs.expand6.Tie as tie
-use Rattle.expand.proofs.expand6.Reads as reads
-use Rattle.expand.proofs.expand6.Lts as lts
-use Rattle.expand.proofs.six.Reads as six-reads
 
--- src/lib.rt:49:9
 returns : tie.Need-returns
 returns c = expansion-refused 6 _ (search needs)
 
--- src/lib.rt:51:23
 cast-six : tie.Need-cast-six
 cast-six c = search needs
 
--- src/lib.rt:51:19
 six-requires : tie.Need-six-requires
 six-requires c κs = search needs
 
--- src/lib.rt:45:1
 returns-2 : tie.Need-returns-2
 returns-2 c = ap meaning (ap Ten (c .six .ensures)) ∙ expansion-accepted 6 _ (search needs)
 

@@ -3,18 +3,13 @@ use Rattle.vocabulary.proofs.Table.{table-rule}
 use borrow.Author.Needs.{needs}
 use Rattle.expand.proofs.six.Statement.{statement}
 use Rattle.expand.proofs.six.Tie as tie
-use Rattle.expand.proofs.six.Reads as reads
-use Rattle.expand.proofs.six.Lts as lts
 
--- src/lib.rt:31:5
 mul-result : tie.Need-mul-result
 mul-result c = search needs
 
--- src/lib.rt:31:5
 array-read-result : tie.Need-array-read-result
 array-read-result c = search needs
 
--- src/lib.rt:27:1
 returns : tie.Need-returns
 unfolding ten
 returns c = table-rule (ten 6) 64 (c .args .v) (search needs)
