@@ -1,11 +1,25 @@
 -- Laws of the refusals' order: which one a call's table gives. Assumes nothing.
-use Prim.Native.Nat.{ℕ}
+use Prim.Native.Nat.{ℕ, suc}
 use native.Mathlib.Omega.{arith}
 use mathlib.Core.Path.{_≡_, refl, sym, ap, _∙_}
 use mathlib.Core.Bool.{Bool, true, false, cond}
 use lib.Dec.{eqb}
 use mathlib.Core.List.{List, [], _∷_, _++_}
-use Rattle.vocabulary.specs.Refusal.{Refusal, number, order, Row, _when_, due, firstDue, refusalOf, lentLength, outOfRange, standing}
+use Rattle.vocabulary.specs.Refusal.{Refusal, number, order, Row, _when_, due, firstDue, refusalOf, standing}
+use Rattle.vocabulary.specs.Refusal.{lentLength, overFifteen, noAccess, noIndex, readMode}
+use Rattle.vocabulary.specs.Refusal.{stillWaiting, shortBuffer, malformed, outOfRange}
+use Rattle.vocabulary.proofs.Choice.{cases}
+
+number-positive : (r : Refusal) → number r ≡ 0 → ⊥
+number-positive lentLength e = omega arith
+number-positive overFifteen e = omega arith
+number-positive noAccess e = omega arith
+number-positive noIndex e = omega arith
+number-positive readMode e = omega arith
+number-positive stillWaiting e = omega arith
+number-positive shortBuffer e = omega arith
+number-positive malformed e = omega arith
+number-positive outOfRange e = omega arith
 
 -- none of these is due
 abbrev pub None : (Refusal → Bool) → List Refusal → Type 0
@@ -44,6 +58,49 @@ module _ (rows : List Row) where
   pub refusal-none : Clear rows → refusalOf rows ≡ 0
   unfolding refusalOf
   refusal-none h = first-none (due rows) order (clear-due rows h)
+
+-- The converse: a refusal that is given is due, and none before it in the order is.
+pub record First (d : Refusal → Bool) (rs : List Refusal) (n : ℕ) : Type 0 where
+  pub before : List Refusal
+  pub refusal : Refusal
+  pub after : List Refusal
+  pub split : before ++ (refusal ∷ after) ≡ rs
+  pub none : None d before
+  pub is-due : d refusal ≡ true
+  pub numbered : number refusal ≡ n
+
+first-exactly : (d : Refusal → Bool) (rs : List Refusal) (n : ℕ) → firstDue d rs ≡ suc n → First d rs (suc n)
+first-exactly d [] n e = absurd (let z : ⊥ = omega arith in z)
+first-exactly d (r ∷ rs) n e =
+    cases (d r)
+    (λ t. record { before = []; refusal = r; after = rs; split = refl; none = tt; is-due = t; numbered = rw t at e })
+    (λ f.
+    let rest = first-exactly d rs n (rw f at e) in
+    record {
+      before = r ∷ rest .before;
+      refusal = rest .refusal;
+      after = rest .after;
+      split = ap (λ (l : List Refusal). r ∷ l) (rest .split);
+      none = (f, rest .none);
+      is-due = rest .is-due;
+      numbered = rest .numbered;
+    })
+
+pub refusal-exactly : (rows : List Row) (n : ℕ) → refusalOf rows ≡ suc n → First (due rows) order (suc n)
+unfolding refusalOf
+refusal-exactly rows n e = first-exactly (due rows) order n e
+
+-- and where none is given, none is due
+none-first : (d : Refusal → Bool) (rs : List Refusal) → firstDue d rs ≡ 0 → None d rs
+none-first d [] e = tt
+none-first d (r ∷ rs) e =
+    cases (d r)
+    (λ t. absurd (number-positive r (rw t at e)))
+    (λ f. (f, none-first d rs (rw f at e)))
+
+pub none-exactly : (rows : List Row) → refusalOf rows ≡ 0 → None (due rows) order
+unfolding refusalOf
+none-exactly rows e = none-first (due rows) order e
 
 -- what every call tries first gives nothing: the lengths and the state are right
 pub standing-clear : (short outside : Bool) → refusalOf (standing short outside) ≡ 0 → (short ≡ false) × (outside ≡ false)
