@@ -1,7 +1,8 @@
 /* check.h: what the host tests share: counting, random numbers, and buffers that end at a page that can't be touched.
  *
- * A test is a function of no arguments, run by RUN. Each comparison goes through CHECK; the first that fails is printed
- * with its input, and the test is failed. A test that compared nothing is failed too. FINISH prints 'N passed, M failed'. */
+ * A test is a function of no arguments, run by RUN. Each comparison goes through CHECK; the first that fails is
+ * printed with its input, and the test is failed. A test that compared nothing is failed too. FINISH prints the last
+ * line, 'N passed, M failed'. */
 #ifndef CHECK_H
 #define CHECK_H
 

@@ -5,11 +5,11 @@
  *  - Memory. The caller owns every buffer. A call is lent it as a pointer and a length, in elements, for the time of
  *    the call, and keeps no pointer. The pointer of an empty buffer may be anything but null. Nothing is allocated, and
  *    there is no state of the library's own, so calls on different buffers may run at the same time.
- *  - Any input is allowed. Each call takes every value that its types hold and every length, never fails in another way
- *    than by a refusal, and always comes back. The lengths must be true: that much memory must be there.
+ *  - Any input is allowed. Each call takes every value that its types hold and every length, never fails in another
+ *    way than by a refusal, and always comes back. The lengths must be true: that much memory must be there.
  *  - Refusals are the numbers of zk_refusal_number, 0 for none. A refused call changes no lent byte, hands a state back
  *    as it was given, and answers 0 for every value and count; a malformed sheet's refusal also tells the line.
- *  - Answers. A call that has no state answers one number of 64 bits; zk_refusal, zk_value, zk_count and zk_line read it.
+ *  - Answers. A call that has no state answers one number of 64 bits: zk_refusal, zk_value, zk_count, zk_line read it.
  */
 #ifndef ZIKOMBARU_H
 #define ZIKOMBARU_H
@@ -35,15 +35,15 @@ enum zk_refusal_number {
     ZK_OUT_OF_RANGE = 9   /* a state or argument outside its range */
 };
 
-/* How a 64-bit answer is read: bits 0 to 7 the refusal, 8 to 15 spare, 16 to 31 the value, 32 to 47 the count, 48 to 63
- * the line. */
+/* How a 64-bit answer is read: bits 0 to 7 the refusal, 8 to 15 spare, 16 to 31 the value, 32 to 47 the count, 48 to
+ * 63 the line. */
 static inline unsigned zk_refusal(uint64_t answer) { return (unsigned)(answer & 0xff); }
 static inline unsigned zk_value(uint64_t answer) { return (unsigned)(answer >> 16 & 0xffff); }
 static inline unsigned zk_count(uint64_t answer) { return (unsigned)(answer >> 32 & 0xffff); }
 static inline unsigned zk_line(uint64_t answer) { return (unsigned)(answer >> 48); }
 
-/* A component of 8 or of 6 bits as ten (RGB640, Tables 23 to 25); zk_value reads them. One that the width does not hold,
- * 256 and over or 64 and over, is ZK_OUT_OF_RANGE. */
+/* A component of 8 or of 6 bits as ten (RGB640, Tables 23 to 25); zk_value reads them. One that the width does not
+ * hold, 256 and over or 64 and over, is ZK_OUT_OF_RANGE. */
 uint64_t zk_expand8(uint32_t component);
 uint64_t zk_expand6(uint32_t component);
 

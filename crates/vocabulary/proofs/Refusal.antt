@@ -26,8 +26,8 @@ abbrev pub None : (Refusal → Bool) → List Refusal → Type 0
 None d [] = Unit
 None d (r ∷ rs) = (d r ≡ false) × None d rs
 
-first-is : (d : Refusal → Bool) (before : List Refusal) (r : Refusal) (after : List Refusal) → None d before → d r ≡ true
-    → firstDue d (before ++ (r ∷ after)) ≡ number r
+first-is : (d : Refusal → Bool) (before : List Refusal) (r : Refusal) (after : List Refusal)
+    → None d before → d r ≡ true → firstDue d (before ++ (r ∷ after)) ≡ number r
 first-is d [] r after h e = rw e refl
 first-is d (q ∷ before) r after h e = rw (h .0) (first-is d before r after (h .1) e)
 
@@ -103,7 +103,8 @@ unfolding refusalOf
 none-exactly rows e = none-first (due rows) order e
 
 -- what every call tries first gives nothing: the lengths and the state are right
-pub standing-clear : (short outside : Bool) → refusalOf (standing short outside) ≡ 0 → (short ≡ false) × (outside ≡ false)
+pub standing-clear : (short outside : Bool) → refusalOf (standing short outside) ≡ 0
+    → (short ≡ false) × (outside ≡ false)
 unfolding refusalOf
 standing-clear false false e = (refl, refl)
 standing-clear false true e = absurd (let z : ⊥ = omega arith in z)
