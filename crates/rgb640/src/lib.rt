@@ -1,0 +1,40 @@
+// Chip C, the palette port of the RGB640: ports 4, 5 and 6 over a lent table of 1,024 colours of ten bits.
+//
+// Source document 001, sections 9.1, 9.3, 9.4.1 and 10.15 with Tables 23 to 26, 29 and 30, and document 01, "Chip C",
+// decide; specs/Rgb640.antt says it. Not modelled: ports 0 to 3 and 7, the window tables, cursor, YUV and the
+// sequences of four and six transfers, the other registers, analogue output, clocks and bus timing.
+ghost use mathlib.Core.Path.{_≡_};
+ghost use Prim.Native.Nat.{_+_, _*_, _≤_, _<_};
+ghost use lib.ListN.{length};
+ghost use Rattle.vocabulary.specs.Range.{Holds, meets, fails};
+ghost use Rattle.vocabulary.specs.Refusal.{standing, refusalOf};
+ghost use Rattle.rgb640.specs.Rgb640.{chip, ranges, whole};
+ghost use Rattle.rgb640.specs.Rgb640.{offset, next, entry, put, prefetched, restarted, component};
+ghost use Rattle.rgb640.specs.Rgb640.{paletteWritten, write, read, reset, leaving};
+
+// A colour of ten bits a component.
+#[repr(C)]
+pub struct Colour {
+    pub red: u16,
+    pub green: u16,
+    pub blue: u16,
+}
+
+// The index, the latches, the fetched entry, the place in the order (0 red, 1 green, 2 blue) and register 0x000E.
+#[repr(C)]
+pub struct State {
+    pub index: u16,
+    pub red: u16,
+    pub green: u16,
+    pub fetched: Colour,
+    pub place: u8,
+    pub update: u8,
+}
+
+// What a call answers: the refusal (0 for none), the byte read, and the state afterwards.
+#[repr(C)]
+pub struct Answer {
+    pub refusal: u8,
+    pub value: u8,
+    pub state: State,
+}
