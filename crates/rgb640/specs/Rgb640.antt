@@ -1,5 +1,5 @@
--- Chip C, the palette port of the RGB640: source document 001, sections 9.1, 9.3, 9.4.1 and 10.15 with Tables 23 to 26,
--- 29 and 30, and document 01, "Chip C". "Ruling" marks what they leave open.
+-- Chip C, the palette port of the RGB640: source document 001, sections 9.1, 9.3, 9.4.1 and 10.15 with Tables 23 to
+-- 26, 29 and 30, and document 01, "Chip C". "Ruling" marks what they leave open.
 -- From the top: the state and its ranges, ports and indexes by name, the table, the order of three accesses, what a
 -- write does, what a read answers and moves, which refusal, the calls, and runs of calls.
 use Prim.Native.Nat.{ℕ, _+_, _-_, _*_, _/_, _%_}
@@ -10,7 +10,7 @@ use lib.Bits.{bitAnd}
 use lib.ListN.{length, getD, set}
 use Rattle.vocabulary.specs.Choice.{pick}
 use Rattle.vocabulary.specs.Range.{Bound, below, equal, tested, meets, fails}
-use Rattle.vocabulary.specs.Refusal.{Row, _when_, lentLength, outOfRange, noAccess, noIndex, refusalOf}
+use Rattle.vocabulary.specs.Refusal.{Row, _when_, lentLength, outOfRange, noAccess, noIndex, refusalOf, standing}
 use Rattle.vocabulary.specs.Outcome.{Outcome, accepting, answered}
 use Rattle.vocabulary.specs.Reply.{Reply, telling}
 use Rattle.expand.specs.Expand.{ten}
@@ -161,8 +161,8 @@ bitFor reading = 4
 abbrev pub increments : ℕ → ℕ → Bool
 increments bit update = eqb (bitAnd update bit) 0
 
--- after the third access: the order restarts; where the bit enables it the offset steps, and in read space that entry is
--- fetched; where it does not, the index and the fetched entry stay
+-- after the third access the order restarts; where the bit enables it the offset steps, and in read space that entry
+-- is fetched; where it does not, the index and the fetched entry stay
 unfoldable pub restarted : ℕ → List ℕ → State → State
 restarted bit t s =
     pick (increments bit (s .update)) (prefetched t (at s (next (s .index)) 0)) (at s (s .index) 0)
@@ -207,31 +207,22 @@ part red f = f .red
 part green f = f .green
 part blue f = f .blue
 
--- port 6: the fetched entry's component divided by 4, floored (ruling)
-unfoldable pub dataAnswer : Space → State → ℕ
-dataAnswer updateControl s = s .update
-dataAnswer paletteRead s = part (component (s .place)) (s .fetched) / 4
-dataAnswer paletteWrite s = 0
-dataAnswer unnamed s = 0
-
-unfoldable pub dataRead : Space → Chip → Chip
-dataRead paletteRead c = let s = c .state in chip (moved reading (component (s .place)) (c .table) s) (c .table)
-dataRead updateControl c = c
-dataRead paletteWrite c = c
-dataRead unnamed c = c
+-- port 6: of the palette the fetched entry's component divided by 4, floored (ruling), by the place in the order
+unfoldable pub dataRead : Space → Chip → Outcome Chip
+dataRead updateControl c = accepting (c .state .update) 0 c
+dataRead paletteRead c =
+    let s = c .state in
+    let k = component (s .place) in
+    accepting (part k (s .fetched) / 4) 0 (chip (moved reading k (c .table) s) (c .table))
+dataRead paletteWrite c = accepting 0 0 c
+dataRead unnamed c = accepting 0 0 c
 
 -- ports 4 and 5 read back the index's bytes and move nothing
-unfoldable pub answer : Port → State → ℕ
-answer indexLow s = s .index % 256
-answer indexHigh s = s .index / 256
-answer indexData s = dataAnswer (spaceOf (s .index)) s
-answer otherPort s = 0
-
-unfoldable pub afterRead : Port → Chip → Chip
-afterRead indexLow c = c
-afterRead indexHigh c = c
-afterRead indexData c = dataRead (spaceOf (c .state .index)) c
-afterRead otherPort c = c
+unfoldable pub readOut : Port → Chip → Outcome Chip
+readOut indexLow c = accepting (c .state .index % 256) 0 c
+readOut indexHigh c = accepting (c .state .index / 256) 0 c
+readOut indexData c = dataRead (spaceOf (c .state .index)) c
+readOut otherPort c = accepting 0 0 c
 
 -- ---- Which refusal (document 01)
 -- 1: the lent table hasn't its length; 9: the state is outside its ranges; 3: the port is not 4 to 6; 4: a data access
@@ -244,34 +235,44 @@ refusals d port c =
     (noIndex when eqb port 6 && not (served (spaceOf (c .state .index)) d)) ∷
     []
 
+-- what write and read try first
+abbrev pub standingOf : ℕ → State → ℕ
+standingOf size s = refusalOf (standing (fails (whole size)) (fails (ranges s)))
+
 -- ---- The calls
 unfoldable pub write : ℕ → ℕ → Chip → Outcome Chip
 write port b c = answered (refusalOf (refusals writing port c)) c (accepting 0 0 (written (portOf port) b c))
 
 unfoldable pub read : ℕ → Chip → Outcome Chip
-read port c =
-    answered (refusalOf (refusals reading port c)) c
-    (accepting (answer (portOf port) (c .state)) 0 (afterRead (portOf port) c))
+read port c = answered (refusalOf (refusals reading port c)) c (readOut (portOf port) c)
 
--- a reset reads nothing of the state, zeroes it and is lent no table (ruling)
+-- a reset reads nothing and is never refused; it zeroes the state and keeps the table (ruling)
 abbrev pub zeroed : State
 zeroed = state 0 0 0 0 (colour 0 0 0) 0
 
-unfoldable pub reset : State → Outcome State
-reset s = answered (refusalOf []) s (accepting 0 0 zeroed)
+unfoldable pub reset : Chip → Outcome Chip
+reset c = answered (refusalOf []) c (accepting 0 0 (chip zeroed (c .table)))
 
--- what a call left, of its answer and the table afterwards
-abbrev pub leaving : {C : Type 0} → Answer → C → Outcome C
-leaving a c = record { refusal = a .refusal; value = a .value; count = 0; line = 0; left = c }
+-- a call's answer, and what it left: that answer, with the table afterwards
+abbrev pub accept : ℕ → State → Answer
+accept v s = record { refusal = 0; value = v; state = s }
+
+abbrev pub refuse : ℕ → State → Answer
+refuse n s = record { refusal = n; value = 0; state = s }
+
+abbrev pub leaving : Answer → List ℕ → Outcome Chip
+leaving a t = record { refusal = a .refusal; value = a .value; count = 0; line = 0; left = chip (a .state) t }
 
 -- ---- Runs of calls
 pub data Call : Type 0 where
   writes : ℕ → ℕ → Call
   reads : ℕ → Call
+  resets : Call
 
 abbrev pub called : Call → Chip → Outcome Chip
 called (writes port b) c = write port b c
 called (reads port) c = read port c
+called resets c = reset c
 
 -- what each call of a run answers
 abbrev pub replies : List Call → Chip → List Reply
