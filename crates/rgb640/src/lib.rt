@@ -127,9 +127,9 @@ fn prefetch(s: State, table: &[u16]) -> State
     }
 }
 
-// The state after a third access: bit is the one of register 0x000E that disables auto-increment.
+// The state after a third access: bit is the one of register 0x000E that, where it is 1, disables auto-increment.
 fn restart(s: State, bit: u8, table: &[u16]) -> State
-    requires { ⌜ (length (now table) ≡ 3072) × (s .index < 65536) ⌝ }
+    requires { ⌜ length (now table) ≡ 3072 ⌝ }
     ensures { λ r. ⌜ r ≡ restarted bit (now (table .entry)) s ⌝ }
 {
     let index = s.index;
@@ -197,6 +197,7 @@ fn data_write(s: State, byte: u8, table: &mut [u16]) -> Answer
     }
 }
 
+// A byte written to a port.
 #[no_mangle]
 pub extern "C" fn zk_c_write(s: State, port: u8, byte: u8, table: &mut [u16]) -> Answer
     ensures { λ r. ⌜ leaving r (now (table .exit)) ≡ write port byte (chip s (now (table .entry))) ⌝ }
@@ -256,6 +257,7 @@ fn data_read(s: State, table: &[u16]) -> Answer
     }
 }
 
+// A byte read from a port.
 #[no_mangle]
 pub extern "C" fn zk_c_read(s: State, port: u8, table: &[u16]) -> Answer
     ensures { λ r. ⌜ leaving r (now (table .entry)) ≡ read port (chip s (now (table .entry))) ⌝ }
@@ -273,6 +275,7 @@ pub extern "C" fn zk_c_read(s: State, port: u8, table: &[u16]) -> Answer
     }
 }
 
+// The chip after a reset: whatever the state was, it is zero. No table is lent, so that it stays.
 #[no_mangle]
 pub extern "C" fn zk_c_reset(s: State) -> Answer
     ensures { λ r. ⌜ ((t : List ℕ) → leaving r t ≡ reset (chip s t)) ⌝ }
