@@ -8,7 +8,7 @@ use borrow.Author.Tests.{ne-eqb}
 use lib.Dec.{eqb}
 use lib.ListN.{length}
 use Rattle.vocabulary.specs.Range.{Holds, fails}
-use Rattle.vocabulary.specs.Refusal.{lentLength, outOfRange, noAccess, noIndex, refusalOf}
+use Rattle.vocabulary.specs.Refusal.{lentLength, outOfRange, noAccess, noIndex}
 use Rattle.vocabulary.specs.Outcome.{Outcome, accepting, refusing, answered}
 use Rattle.vocabulary.proofs.Range.{meets-passes, misses-fails, passes-holds}
 use Rattle.vocabulary.proofs.Refusal.{refusal-is, refusal-none, standing-clear, standing-first}
@@ -16,7 +16,8 @@ use Rattle.vocabulary.proofs.Outcome.{refused-as, accepted-does, refusal-keeps}
 use Rattle.rgb640.specs.declared.State.{State}
 use Rattle.rgb640.specs.declared.Answer.{Answer}
 use Rattle.rgb640.specs.Rgb640.{Chip, chip, ranges, whole, within, portOf, Space, spaceOf}
-use Rattle.rgb640.specs.Rgb640.{Direction, writing, reading, served, refusals, standingOf, leaving, write, read}
+use Rattle.rgb640.specs.Rgb640.{Direction, writing, reading, served, refusals, standingOf, leaving}
+use Rattle.rgb640.specs.Rgb640.{access, write, read}
 use Rattle.rgb640.specs.Rgb640.{written, dataWritten, readOut, dataRead}
 use Rattle.rgb640.specs.Rgb640.{colour, offset, put, blue, bitFor, restarted, moved, taken, paletteWritten}
 use Rattle.rgb640.proofs.Index.{in-run, out-of-run}
@@ -30,18 +31,20 @@ stands-holds n s e =
     let k = standing-clear _ _ e in
     (passes-holds (whole n) (k .0) .0, passes-holds (ranges s) (k .1))
 
--- a call of either direction: what it is given, and what it does where nothing is refused
+-- an access in either direction: what it is given, and what it does where nothing is refused
 module _ (d : Direction) (port : ℕ) (c : Chip) (done : Outcome Chip) where
   -- the length or the state
-  stops : {r : ℕ} → r ≡ standingOf (length (c .table)) (c .state) → (r ≡ 0 → ⊥)
-      → refusing r 0 c ≡ answered (refusalOf (refusals d port c)) c done
+  pub stops : {r : ℕ} → r ≡ standingOf (length (c .table)) (c .state) → (r ≡ 0 → ⊥)
+      → refusing r 0 c ≡ access d port c done
+  unfolding access
   stops e h =
       let f = standing-first _ _ (refusals d port c) refl (λ g. g) (λ g. h (e ∙ g)) in
       sym (refusal-keeps _ 0 c done h) ∙ ap (λ (n : ℕ). answered n c done) (e ∙ sym f)
 
   module _ (n : Stands c) where
     -- the port
-    no-port : (4 ≤ port → port < 7 → ⊥) → refusing 3 0 c ≡ answered (refusalOf (refusals d port c)) c done
+    pub no-port : (4 ≤ port → port < 7 → ⊥) → refusing 3 0 c ≡ access d port c done
+    unfolding access
     no-port h =
         let k = standing-clear _ _ n in
         sym (refused-as 2 0 c done
@@ -53,8 +56,9 @@ module _ (d : Direction) (port : ℕ) (c : Chip) (done : Outcome Chip) where
       is-port = meets-passes (within 4 3 port) (in-run 4 3 port l u)
 
       -- the index
-      no-index : (eqb port 6 && not (served (spaceOf (c .state .index)) d)) ≡ true
-          → refusing 4 0 c ≡ answered (refusalOf (refusals d port c)) c done
+      pub no-index : (eqb port 6 && not (served (spaceOf (c .state .index)) d)) ≡ true
+          → refusing 4 0 c ≡ access d port c done
+      unfolding access
       no-index h =
           let k = standing-clear _ _ n in
           sym (refused-as 3 0 c done
@@ -62,32 +66,11 @@ module _ (d : Direction) (port : ℕ) (c : Chip) (done : Outcome Chip) where
           (k .0, (k .1, (is-port, tt))) h))
 
       -- none
-      does : (eqb port 6 && not (served (spaceOf (c .state .index)) d)) ≡ false
-          → done ≡ answered (refusalOf (refusals d port c)) c done
+      pub does : (eqb port 6 && not (served (spaceOf (c .state .index)) d)) ≡ false → done ≡ access d port c done
+      unfolding access
       does h =
           let k = standing-clear _ _ n in
           sym (accepted-does 0 c done (refusal-none (refusals d port c) (k .0, (k .1, (is-port, (h, tt))))))
-
--- the same of each call
-module _ (port b : ℕ) (c : Chip) where
-  pub write-stops : {r : ℕ} → r ≡ standingOf (length (c .table)) (c .state) → (r ≡ 0 → ⊥)
-      → refusing r 0 c ≡ write port b c
-  unfolding write
-  write-stops e h = stops writing port c _ e h
-
-  pub write-no-port : Stands c → (4 ≤ port → port < 7 → ⊥) → refusing 3 0 c ≡ write port b c
-  unfolding write
-  write-no-port n h = no-port writing port c _ n h
-
-module _ (port : ℕ) (c : Chip) where
-  pub read-stops : {r : ℕ} → r ≡ standingOf (length (c .table)) (c .state) → (r ≡ 0 → ⊥)
-      → refusing r 0 c ≡ read port c
-  unfolding read
-  read-stops e h = stops reading port c _ e h
-
-  pub read-no-port : Stands c → (4 ≤ port → port < 7 → ⊥) → refusing 3 0 c ≡ read port c
-  unfolding read
-  read-no-port n h = no-port reading port c _ n h
 
 -- equal answers and tables leave the same
 pub leaves : {a b : Answer} {t u : List ℕ} → a ≡ b → t ≡ u → leaving a t ≡ leaving b u
@@ -100,11 +83,11 @@ module _ (c : Chip) (n : Stands c) (port : ℕ) (l : 4 ≤ port) (u : port < 6) 
 
   pub write-index : (b : ℕ) → accepting 0 0 (written (portOf port) b c) ≡ write port b c
   unfolding write
-  write-index b = does writing port c _ n l (omega arith) (not-data _)
+  write-index b = does _ port c _ n l (omega arith) (not-data _)
 
   pub read-index : readOut (portOf port) c ≡ read port c
   unfolding read
-  read-index = does reading port c _ n l (omega arith) (not-data _)
+  read-index = does _ port c _ n l (omega arith) (not-data _)
 
 -- an access of port 6, by what its index names
 module _ (c : Chip) (n : Stands c) (space : Space) (e : spaceOf (c .state .index) ≡ space) where
@@ -115,19 +98,18 @@ module _ (c : Chip) (n : Stands c) (space : Space) (e : spaceOf (c .state .index
   unfolding write portOf written
   write-data h b =
       ap (λ (s : Space). accepting 0 0 (dataWritten s b c)) (sym e)
-      ∙ does writing 6 c _ n (omega arith) (omega arith) (serves writing h)
+      ∙ does _ 6 c _ n (omega arith) (omega arith) (serves writing h)
 
   pub read-data : served space reading ≡ true → dataRead space c ≡ read 6 c
   unfolding read portOf readOut
   read-data h =
       ap (λ (s : Space). dataRead s c) (sym e)
-      ∙ does reading 6 c _ n (omega arith) (omega arith) (serves reading h)
+      ∙ does _ 6 c _ n (omega arith) (omega arith) (serves reading h)
 
 -- and where it is not served
-module _ (c : Chip) (n : Stands c) where
-  pub refuses-data : (d : Direction) (done : Outcome Chip) → served (spaceOf (c .state .index)) d ≡ false
-      → refusing 4 0 c ≡ answered (refusalOf (refusals d 6 c)) c done
-  refuses-data d done h = no-index d 6 c done n (omega arith) (omega arith) (ap not h)
+pub refuses-data : (d : Direction) (c : Chip) (done : Outcome Chip) → Stands c
+    → served (spaceOf (c .state .index)) d ≡ false → refusing 4 0 c ≡ access d 6 c done
+refuses-data d c done n h = no-index d 6 c done n (omega arith) (omega arith) (ap not h)
 
 -- a third write: what is stored, and the state after it
 pub stores-third : (s : State) (w : ℕ) (t : List ℕ) {v : ℕ} {u : List ℕ} {n : State} → v ≡ w

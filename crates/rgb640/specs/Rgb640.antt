@@ -225,8 +225,8 @@ readOut indexData c = dataRead (spaceOf (c .state .index)) c
 readOut otherPort c = accepting 0 0 c
 
 -- ---- Which refusal (document 01)
--- 1: the lent table hasn't its length; 9: the state is outside its ranges; 3: the port is not 4 to 6; 4: a data access
--- at an index that is not named, or against its direction
+-- 1: the lent table hasn't its length; 9: the state is outside its ranges; 3: the port is not 4 to 6;
+-- 4: a data access at an index that is not named, or against its direction
 abbrev pub refusals : Direction → ℕ → Chip → List Row
 refusals d port c =
     (lentLength when fails (whole (length (c .table)))) ∷
@@ -240,11 +240,15 @@ abbrev pub standingOf : ℕ → State → ℕ
 standingOf size s = refusalOf (standing (fails (whole size)) (fails (ranges s)))
 
 -- ---- The calls
+-- an access of a port: refused, or what it does
+unfoldable pub access : Direction → ℕ → Chip → Outcome Chip → Outcome Chip
+access d port c done = answered (refusalOf (refusals d port c)) c done
+
 unfoldable pub write : ℕ → ℕ → Chip → Outcome Chip
-write port b c = answered (refusalOf (refusals writing port c)) c (accepting 0 0 (written (portOf port) b c))
+write port b c = access writing port c (accepting 0 0 (written (portOf port) b c))
 
 unfoldable pub read : ℕ → Chip → Outcome Chip
-read port c = answered (refusalOf (refusals reading port c)) c (readOut (portOf port) c)
+read port c = access reading port c (readOut (portOf port) c)
 
 -- a reset reads nothing and is never refused; it zeroes the state and keeps the table (ruling)
 abbrev pub zeroed : State

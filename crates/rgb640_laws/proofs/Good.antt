@@ -18,7 +18,7 @@ use Rattle.rgb640.specs.Rgb640.{Space, updateControl, paletteWrite, paletteRead
 use Rattle.rgb640.specs.Rgb640.{Port, indexLow, indexHigh, indexData, otherPort}
 use Rattle.rgb640.specs.Rgb640.{Component, red, green, blue, component, Direction, bitFor, restarted, moved}
 use Rattle.rgb640.specs.Rgb640.{taken, paletteWritten, dataWritten, written, dataRead, readOut}
-use Rattle.rgb640.specs.Rgb640.{Call, writes, reads, resets, called, write, read, reset}
+use Rattle.rgb640.specs.Rgb640.{Call, writes, reads, resets, called, access, write, read, reset}
 use Rattle.rgb640.proofs.Access.{Stands}
 use Rattle.rgb640_laws.proofs.Entry.{put-length}
 
@@ -97,7 +97,7 @@ Bytes (reads port) = Unit
 Bytes resets = Unit
 
 pub call-keeps-good : (k : Call) (c : Chip) → Bytes k → Good c → Good (called k c .left)
-unfolding write read reset
+unfolding access write read reset
 call-keeps-good (writes port b) c h g = left-holds Good _ 0 c _ g (written-good c g b h _)
 call-keeps-good (reads port) c h g = left-holds Good _ 0 c _ g (read-out-good c g _)
 call-keeps-good resets c h g = left-holds Good _ 0 c _ g (g .0, omega arith)

@@ -12,7 +12,7 @@ use Rattle.rgb640.specs.Rgb640.{Chip, chip, colour, at, updating, offset, put, 
 use Rattle.rgb640.specs.Rgb640.{Space, updateControl, paletteWrite, paletteRead, unnamed, served, reading, bitFor}
 use Rattle.rgb640.specs.Rgb640.{Port, indexLow, indexHigh, indexData, otherPort, portOf}
 use Rattle.rgb640.specs.Rgb640.{Component, red, green, blue, component, restarted, moved, taken, paletteWritten}
-use Rattle.rgb640.specs.Rgb640.{dataWritten, written, dataRead, readOut, write, read}
+use Rattle.rgb640.specs.Rgb640.{dataWritten, written, dataRead, readOut, access, write, read}
 use Rattle.rgb640.proofs.Index.{space-update, space-write, space-read}
 use Rattle.rgb640.proofs.Access.{write-data, read-data}
 use Rattle.rgb640_laws.proofs.Entry.{put-others}
@@ -24,7 +24,7 @@ module _ (c : Chip) where
   Indexed d = d ≡ chip (at (c .state) (d .state .index) (c .state .place)) (c .table)
 
   pub low-keeps : (b : ℕ) → Indexed (write 4 b c .left)
-  unfolding write portOf written
+  unfolding access write portOf written
   low-keeps b = left-holds Indexed _ 0 c _ refl refl
 
   -- one of port 5 keeps the latches, register 0x000E and the table
@@ -42,7 +42,7 @@ module _ (c : Chip) where
   prepared-latched unnamed i = (refl, refl, refl, refl)
 
   pub high-keeps-latches : (b : ℕ) → Latched (write 5 b c .left)
-  unfolding write portOf written
+  unfolding access write portOf written
   high-keeps-latches b = left-holds Latched _ 0 c _ (refl, refl, refl, refl) (prepared-latched _ _)
 
   -- a read changes no number of the table
@@ -61,7 +61,7 @@ module _ (c : Chip) where
   read-out-keeps otherPort = refl
 
   pub read-keeps-table : (port : ℕ) → read port c .left .table ≡ c .table
-  unfolding read
+  unfolding access read
   read-keeps-table port = left-holds (λ (d : Chip). d .table ≡ c .table) _ 0 c _ refl (read-out-keeps _)
 
 -- a write changes no number outside the index's entry
@@ -88,7 +88,7 @@ module _ (c : Chip) (i : ℕ) (f : i ≡ 3 * offset (c .state .index) → ⊥) (
   written-keeps otherPort b = refl
 
   pub write-keeps-others : (port b : ℕ) → getD (write port b c .left .table) i 0 ≡ getD (c .table) i 0
-  unfolding write
+  unfolding access write
   write-keeps-others port b =
       left-holds (λ (d : Chip). getD (d .table) i 0 ≡ getD (c .table) i 0) _ 0 c _ refl (written-keeps _ b)
 

@@ -35,7 +35,7 @@ returns-3 : tie.Need-returns-3
 unfolding read
 returns-3 c =
     leaves (c .refused .ensures) refl
-    ∙ refuses-data (chip _ _) (c .before .before .before .before .pre) reading _
+    ∙ refuses-data _ (chip _ _) _ (c .before .before .before .before .pre)
     (unserved _ (c .before .before .match .rest .1) reading
     (λ l h. ⊎-elim (λ w. omega arith) (λ w. omega arith) (c .before .if1 .came)))
 

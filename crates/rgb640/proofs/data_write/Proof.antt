@@ -43,7 +43,7 @@ returns-3 : tie.Need-returns-3
 unfolding write
 returns-3 c =
     leaves (c .refused .ensures) refl
-    ∙ refuses-data (chip _ _) (c .before .before .before .before .pre) writing _
+    ∙ refuses-data _ (chip _ _) _ (c .before .before .before .before .pre)
     (unserved _ (c .before .before .match .rest .1) writing
     (λ l h. ⊎-elim (λ w. omega arith) (λ w. omega arith) (c .before .if1 .came)))
 

@@ -1,8 +1,8 @@
 use mathlib.Core.Path.{_≡_, refl, sym, _∙_}
 use native.Mathlib.Omega.{arith}
 use lib.ListN.{length}
-use Rattle.rgb640.specs.Rgb640.{chip, portOf, standingOf, readOut}
-use Rattle.rgb640.proofs.Access.{leaves, read-stops, read-no-port, read-index}
+use Rattle.rgb640.specs.Rgb640.{chip, portOf, standingOf, readOut, read}
+use Rattle.rgb640.proofs.Access.{leaves, stops, no-port, read-index}
 use borrow.Author.Needs.{needs}
 use Rattle.rgb640.proofs.zk_c_read.Statement.{statement}
 use Rattle.rgb640.proofs.zk_c_read.Tie as tie
@@ -19,9 +19,10 @@ refused-requires : tie.Need-refused-requires
 refused-requires c κs = search needs
 
 returns : tie.Need-returns
+unfolding read
 returns c =
     leaves (c .refused .ensures) refl
-    ∙ read-stops _ _ (c .before .before .standing-of .ensures) (c .before .if1 .taken)
+    ∙ stops _ _ (chip _ _) _ (c .before .before .standing-of .ensures) (c .before .if1 .taken)
 
 cast-accepted : tie.Need-cast-accepted
 cast-accepted c = search needs
@@ -59,8 +60,9 @@ returns-4 : tie.Need-returns-4
 returns-4 c = rw (c .before .match .keys3) (c .data-read .ensures)
 
 returns-5 : tie.Need-returns-5
+unfolding read
 returns-5 c =
-    leaves (c .refused2 .ensures) refl ∙ read-no-port _ _ (stands (c .before .before)) (λ l u. omega arith)
+    leaves (c .refused2 .ensures) refl ∙ no-port _ _ (chip _ _) _ (stands (c .before .before)) (λ l u. omega arith)
 
 pub zk-c-read-spec : {M : Type 1} → statement M
 zk-c-read-spec =

@@ -1,8 +1,8 @@
 use mathlib.Core.Path.{_≡_, refl, sym, ap, _∙_}
 use native.Mathlib.Omega.{arith}
 use lib.ListN.{length}
-use Rattle.rgb640.specs.Rgb640.{chip, portOf, standingOf, accept, written}
-use Rattle.rgb640.proofs.Access.{stands-holds, leaves, write-stops, write-no-port, write-index}
+use Rattle.rgb640.specs.Rgb640.{chip, portOf, standingOf, accept, written, write}
+use Rattle.rgb640.proofs.Access.{stands-holds, leaves, stops, no-port, write-index}
 use borrow.Author.Needs.{needs}
 use Rattle.rgb640.proofs.zk_c_write.Statement.{statement}
 use Rattle.rgb640.proofs.zk_c_write.Tie as tie
@@ -19,9 +19,10 @@ refused-requires : tie.Need-refused-requires
 refused-requires c κs = search needs
 
 returns : tie.Need-returns
+unfolding write
 returns c =
     leaves (c .refused .ensures) refl
-    ∙ write-stops _ _ _ (c .before .before .standing-of .ensures) (c .before .if1 .taken)
+    ∙ stops _ _ (chip _ _) _ (c .before .before .standing-of .ensures) (c .before .if1 .taken)
 
 mul-n : tie.Need-mul-n
 mul-n c = search needs
@@ -74,9 +75,10 @@ returns-4 : tie.Need-returns-4
 returns-4 c = rw (c .before .before .before .before .match .keys3) (c .before .before .data-write .ensures)
 
 returns-5 : tie.Need-returns-5
+unfolding write
 returns-5 c =
     leaves (c .refused2 .ensures) refl
-    ∙ write-no-port _ _ _ (stands (c .before .before)) (λ l u. omega arith)
+    ∙ no-port _ _ (chip _ _) _ (stands (c .before .before)) (λ l u. omega arith)
 
 pub zk-c-write-spec : {M : Type 1} → statement M
 zk-c-write-spec =
