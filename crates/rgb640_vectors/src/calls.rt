@@ -1,6 +1,7 @@
-// The lent table, a given state, and runs of calls, each answer printed.
+// The lent table, a given state, and runs of calls, each with its label and the answers printed.
 use super::print::answer;
 use super::print::end;
+use super::print::label;
 use rgb640::Colour;
 use rgb640::State;
 
@@ -11,30 +12,6 @@ pub fn table() -> [u16; 3072] {
         t[i] = (i * 4 + 1) as u16;
     }
     t
-}
-
-// The index by its low and then its high byte.
-pub fn point(s: State, high: u8, low: u8, t: &mut [u16]) -> State {
-    let n = answer(rgb640::zk_c_write(s, 4, low, t));
-    answer(rgb640::zk_c_write(n, 5, high, t))
-}
-
-// Three bytes to port 6.
-pub fn three_writes(s: State, r: u8, g: u8, b: u8, t: &mut [u16]) -> State {
-    let one = answer(rgb640::zk_c_write(s, 6, r, t));
-    let two = answer(rgb640::zk_c_write(one, 6, g, t));
-    let three = answer(rgb640::zk_c_write(two, 6, b, t));
-    end();
-    three
-}
-
-// Three reads of port 6.
-pub fn three_reads(s: State, t: &[u16]) -> State {
-    let one = answer(rgb640::zk_c_read(s, 6, t));
-    let two = answer(rgb640::zk_c_read(one, 6, t));
-    let three = answer(rgb640::zk_c_read(two, 6, t));
-    end();
-    three
 }
 
 // A state with this index, place and byte in register 0x000E, latches 5 and 6, and 21, 22, 23 fetched.
@@ -52,4 +29,64 @@ pub fn given(index: u16, place: u8, update: u8) -> State {
         place,
         update,
     }
+}
+
+pub fn write(s: State, port: u8, byte: u8, t: &mut [u16]) -> State {
+    answer(rgb640::zk_c_write(s, port, byte, t))
+}
+
+pub fn read(s: State, port: u8, t: &[u16]) -> State {
+    answer(rgb640::zk_c_read(s, port, t))
+}
+
+// The index by its low and then its high byte.
+pub fn point(s: State, index: u16, t: &mut [u16]) -> State {
+    write(
+        write(s, 4, (index % 256) as u8, t),
+        5,
+        (index / 256) as u8,
+        t,
+    )
+}
+
+fn three_writes(s: State, r: u8, g: u8, b: u8, t: &mut [u16]) -> State {
+    let n = write(write(write(s, 6, r, t), 6, g, t), 6, b, t);
+    end();
+    n
+}
+
+fn three_reads(s: State, t: &[u16]) -> State {
+    let n = read(read(read(s, 6, t), 6, t), 6, t);
+    end();
+    n
+}
+
+// Three bytes to port 6 at the index as it stands, and at one that is set first.
+pub fn store(text: &[u8], s: State, r: u8, g: u8, b: u8, t: &mut [u16]) -> State {
+    label(text);
+    three_writes(s, r, g, b, t)
+}
+
+pub fn store_at(text: &[u8], s: State, index: u16, r: u8, g: u8, b: u8, t: &mut [u16]) -> State {
+    label(text);
+    three_writes(point(s, index, t), r, g, b, t)
+}
+
+// Three reads of port 6, alike.
+pub fn recall(text: &[u8], s: State, t: &[u16]) -> State {
+    label(text);
+    three_reads(s, t)
+}
+
+pub fn recall_at(text: &[u8], s: State, index: u16, t: &mut [u16]) -> State {
+    label(text);
+    three_reads(point(s, index, t), t)
+}
+
+// The index set, with nothing after it.
+pub fn point_at(text: &[u8], s: State, index: u16, t: &mut [u16]) -> State {
+    label(text);
+    let n = point(s, index, t);
+    end();
+    n
 }

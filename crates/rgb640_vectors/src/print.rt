@@ -1,11 +1,11 @@
-// What the vectors print: labels, answers as refusal/value, indexes with the place in the order, colours.
+// What the vectors print: a label, then answers as refusal/value, an index with the place in the order, or a colour.
 use libc::STDOUT_FILENO;
 use rgb640::Answer;
 use rgb640::State;
 
 pub fn label(text: &[u8]) {
     io::write_all(STDOUT_FILENO, text);
-    io::write_all(STDOUT_FILENO, b"\n");
+    end();
 }
 
 pub fn end() {
@@ -22,6 +22,14 @@ fn hex(n: u16, width: usize) {
     io::print_hex(STDOUT_FILENO, n as u64, width);
 }
 
+fn three(text: &[u8], a: u16, b: u16, c: u16) {
+    label(text);
+    decimal(a);
+    decimal(b);
+    decimal(c);
+    end();
+}
+
 // A call's answer, and the state that it left.
 pub fn answer(a: Answer) -> State {
     decimal(a.refusal as u16);
@@ -32,14 +40,16 @@ pub fn answer(a: Answer) -> State {
 }
 
 // The index and the place.
-pub fn place(s: State) {
+pub fn place(text: &[u8], s: State) {
+    label(text);
     hex(s.index, 4);
     decimal(s.place as u16);
     end();
 }
 
 // The latches and register 0x000E.
-pub fn latches(s: State) {
+pub fn latches(text: &[u8], s: State) {
+    label(text);
     decimal(s.red);
     decimal(s.green);
     hex(s.update as u16, 2);
@@ -47,23 +57,17 @@ pub fn latches(s: State) {
 }
 
 // The fetched entry.
-pub fn fetched(s: State) {
+pub fn fetched(text: &[u8], s: State) {
     let f = s.fetched;
-    decimal(f.red);
-    decimal(f.green);
-    decimal(f.blue);
-    end();
+    three(text, f.red, f.green, f.blue);
 }
 
 // An entry of the table, as it stands.
-pub fn entry(t: &[u16], e: usize) {
+pub fn entry(text: &[u8], t: &[u16], e: usize) {
     if e < 1024 {
         let at = 3 * e;
         if at + 2 < t.len() {
-            decimal(t[at]);
-            decimal(t[at + 1]);
-            decimal(t[at + 2]);
+            three(text, t[at], t[at + 1], t[at + 2]);
         }
     }
-    end();
 }
