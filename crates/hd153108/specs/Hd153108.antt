@@ -164,7 +164,8 @@ registers s read blink control k = record {
 abbrev pub line : ℕ → ℕ → ℕ
 line n k = n / 2 ^ k % 2
 
--- 1 and 2. What one line reads: 0 where its read mask bit is 1; in the off time 0 where its blink mask bit is 0 (ruling)
+-- 1 and 2. What one line reads: 0 where its read mask bit is 1; in the off time 0 where its blink mask bit is 0
+-- (ruling); else as it is
 unfoldable pub lineReads : Bool → ℕ → ℕ → ℕ → ℕ
 lineReads off (suc read) blink x = 0
 lineReads true zero zero x = 0
@@ -195,17 +196,20 @@ offTime timing = 4 * (timing / 16 + 1)
 abbrev pub period : ℕ → ℕ
 period timing = onTime timing + offTime timing
 
--- the position starts at 0, on
+-- the blink clock: the register, and the position in its period, which starts at 0 (on)
+abbrev pub clock : ℕ → ℕ → Clock
+clock timing position = record { timing = timing; position = position }
+
 unfoldable pub isOff : Clock → Bool
 isOff k = leb (onTime (k .timing)) (k .position)
 
 -- a timing write restarts it, with an equal value too (ruling)
 abbrev pub restarted : ℕ → Clock
-restarted timing = record { timing = timing; position = 0 }
+restarted timing = clock timing 0
 
 -- each tick adds 1, modulo the period
 abbrev pub ticked : Clock → Clock
-ticked k = record { timing = k .timing; position = (k .position + 1) % period (k .timing) }
+ticked k = clock (k .timing) ((k .position + 1) % period (k .timing))
 
 -- ---- What an accepted access does to each register (Table 1.1, Table 3)
 
@@ -245,7 +249,8 @@ moved blinkTiming c = c
 
 -- ---- Pixel selection
 
--- Table 4: without enable the colours; with it, where b6 is 1 and the overlay number is 0, the colours too; else overlays
+-- Table 4: without enable the colours; with it, where b6 is 1 and the overlay number is 0, the colours too; otherwise
+-- the overlays
 unfoldable pub selected : ℕ → ℕ → ℕ → Table
 selected zero b6 number = colour
 selected (suc enable) zero number = overlay
