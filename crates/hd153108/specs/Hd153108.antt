@@ -321,12 +321,16 @@ isReserved blinkMask = false
 isReserved overlayControl = false
 isReserved blinkTiming = false
 
--- when a write or a read is refused; 3: a select over 7, or reserved
+-- a select over 7, or reserved
+abbrev pub noRegister : ℕ → Bool
+noRegister select = ltb 7 select || isReserved (registerAt select)
+
+-- when a write or a read is refused
 abbrev pub accessRefusals : ℕ → Chip → List Row
 accessRefusals select c =
     (lentLength when short c) ∷
     (outOfRange when outside c) ∷
-    (noAccess when (ltb 7 select || isReserved (registerAt select))) ∷
+    (noAccess when noRegister select) ∷
     []
 
 unfoldable pub write : ℕ → ℕ → Chip → Outcome Chip
