@@ -52,9 +52,9 @@ pub struct ClockAnswer {
 }
 
 // The blink position after a tick.
-pub struct Next {
-    pub refusal: u8,
-    pub position: u8,
+struct Next {
+    position: u8,
+    refusal: u8,
 }
 
 fn refused(n: u8, s: State) -> Answer
@@ -311,13 +311,13 @@ fn step(timing: u8, position: u8) -> Next
     let period = period_of(timing);
     if period <= position {
         return Next {
-            refusal: 9,
             position: position,
+            refusal: 9,
         };
     }
     Next {
-        refusal: 0,
         position: (position + 1) % period,
+        refusal: 0,
     }
 }
 
@@ -336,4 +336,14 @@ pub extern "C" fn zk_a_step(k: Clock) -> ClockAnswer
         refusal: next.refusal,
         clock: after,
     }
+}
+
+// One tick more, on a lent clock; where it is refused the clock stays as it is.
+#[no_mangle]
+pub extern "C" fn zk_a_tick(k: &mut Clock) -> u8
+    ensures { λ r. ⌜ clockOutcome r (now (k .exit)) ≡ tick (now (k .entry)) ⌝ }
+{
+    let next = step(k.timing, k.position);
+    k.position = next.position;
+    next.refusal
 }
