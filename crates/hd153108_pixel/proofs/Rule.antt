@@ -52,10 +52,10 @@ module _ (enable number byte : ℕ) (c : Chip) where
     unfolding pixelOr
     picked-outside h =
         let outside = not-fails (ranges (c .state) ++ pixelRanges enable number)
-          (λ g. h (holds-parts (ranges (c .state)) (pixelRanges enable number) g .1)) in
+        (λ g. h (holds-parts (ranges (c .state)) (pixelRanges enable number) g .1)) in
         record {
           means = λ none. sym (refused-as 8 0 none _
-            (refusal-is (pixelRefusals enable number c) (lentLength ∷ []) outOfRange _ refl (lent, tt) outside));
+              (refusal-is (pixelRefusals enable number c) (lentLength ∷ []) outOfRange _ refl (lent, tt) outside));
           inside = tt;
         }
 
@@ -78,8 +78,11 @@ module _ (enable number byte : ℕ) (c : Chip) where
       unfolding shownEntry
       picked-colour i h p = record {
         means = λ none. rw p (shows colour (is-colour _ h) none);
-        inside = omega (arith, known c clear,
-          masked-fits 8 (isOff (c .state .clock)) (c .state .readmask) (c .state .blinkmask) byte);
+        inside = omega (
+          arith,
+          known c clear,
+          masked-fits 8 (isOff (c .state .clock)) (c .state .readmask) (c .state .blinkmask) byte,
+        );
       }
 
       pub picked-overlay : (i : ℕ) → isColour (shownTable enable number (c .state)) ≡ false
@@ -87,8 +90,11 @@ module _ (enable number byte : ℕ) (c : Chip) where
       unfolding shownEntry
       picked-overlay i h p = record {
         means = λ none. rw p (shows overlay (is-overlay _ h) none);
-        inside = omega (arith, known c clear,
-          masked-fits 2 (isOff (c .state .clock)) (c .state .control) (c .state .control / 4) number);
+        inside = omega (
+          arith,
+          known c clear,
+          masked-fits 2 (isOff (c .state .clock)) (c .state .control) (c .state .control / 4) number,
+        );
       }
 
 -- what is known of a pick that is q
