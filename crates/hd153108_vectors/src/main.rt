@@ -135,10 +135,7 @@ fn control() {
     registers(s6);
     label(b"a reset zeroes the state, from any state");
     let bad = State { pointer: 7, ..s6 };
-    let a = hd153108::zk_a_reset(bad);
-    let zeroed = a.state;
-    registers(zeroed);
-    read(zeroed, 0, &colours, &overlays);
+    registers(show::reset(bad));
 }
 
 fn period() {
@@ -176,20 +173,19 @@ fn masks<'a>(colours: &'a [u8], overlays: &'a [u8]) {
     };
     pixel(blinking, colours, overlays, 0, 0, 165);
     pixel(in_off_time(blinking), colours, overlays, 0, 0, 165);
-    label(
-        b"overlay control 02 masks line 1, and 04 keeps line 0 from blinking: number 3 in the on and the off time",
-    );
-    let control = State {
+    label(b"overlay control 06, number 3: line 1 is masked, overlay 1 shows");
+    let mask = State {
         control: 6,
         ..fresh()
     };
-    pixel(control, colours, overlays, 1, 3, 0);
-    let number = State {
+    pixel(mask, colours, overlays, 1, 3, 0);
+    label(b"overlay control 04, number 3: line 1 blinks and line 0 does not, overlay 3, then 1");
+    let blink = State {
         control: 4,
         ..fresh()
     };
-    pixel(number, colours, overlays, 1, 3, 0);
-    pixel(in_off_time(number), colours, overlays, 1, 3, 0);
+    pixel(blink, colours, overlays, 1, 3, 0);
+    pixel(in_off_time(blink), colours, overlays, 1, 3, 0);
 }
 
 fn bit_six<'a>(colours: &'a [u8], overlays: &'a [u8]) {

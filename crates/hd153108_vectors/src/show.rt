@@ -74,6 +74,11 @@ pub fn read(s: State, select: u8, colours: &[u8], overlays: &[u8]) -> State {
     answer(hd153108::zk_a_read(s, select, colours, overlays))
 }
 
+pub fn reset(s: State) -> State {
+    text(b"reset");
+    answer(hd153108::zk_a_reset(s))
+}
+
 pub fn registers(s: State) {
     two(b"readmask=", s.readmask);
     two(b" blinkmask=", s.blinkmask);
