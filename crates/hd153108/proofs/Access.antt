@@ -14,7 +14,9 @@ use Rattle.vocabulary.proofs.Refusal.{refusal-is, refusal-none, standing-clear,
 use Rattle.vocabulary.proofs.Outcome.{refusal-keeps, refused-as, accepted-does}
 use Rattle.hd153108.specs.declared.State.{State}
 use Rattle.hd153108.specs.declared.Answer.{Answer}
-use Rattle.hd153108.specs.Hd153108.{Chip, chip, registerAt, Component, componentAt, red, green, blue, stepped, written, answers, moved, lengths, ranges, short, outside, noRegister, accessRefusals, write, read, outcome, stateOutcome}
+use Rattle.hd153108.specs.Hd153108.{Chip, chip, registerAt, Component, componentAt, red, green, blue, stepped}
+use Rattle.hd153108.specs.Hd153108.{written, answers, moved, lengths, ranges, short, outside, noRegister}
+use Rattle.hd153108.specs.Hd153108.{accessRefusals, write, read, outcome, stateOutcome}
 
 -- what every call tries first, by what fails
 pub stands-short : {short : Bool} (outside : Bool) → short ≡ true → 1 ≡ refusalOf (standing short outside)

@@ -15,7 +15,8 @@ use Rattle.vocabulary.specs.Outcome.{accepting}
 use Rattle.vocabulary.proofs.Range.{clash, holds-passes, not-fails, passes-holds, holds-parts}
 use Rattle.vocabulary.proofs.Refusal.{refusal-is, refusal-none, standing-clear}
 use Rattle.vocabulary.proofs.Outcome.{refused-as, accepted-does}
-use Rattle.hd153108.specs.Hd153108.{Chip, Table, colour, overlay, tableOf, isOff, masked, selected, shownTable, shownEntry, colourAt, shown, ranges, pixelRanges, short, pixelRefusals, pixelOr}
+use Rattle.hd153108.specs.Hd153108.{Chip, Table, colour, overlay, tableOf, isOff, masked, selected, shownTable}
+use Rattle.hd153108.specs.Hd153108.{shownEntry, colourAt, shown, ranges, pixelRanges, short, pixelRefusals, pixelOr}
 use Rattle.hd153108.proofs.Access.{tried, known, stops}
 use Rattle.hd153108_pixel.specs.declared.Pick.{Pick}
 use Rattle.hd153108_pixel.specs.declared.Pick.the-variants.{Colour, Overlay, Refused}

@@ -6,13 +6,11 @@ mod show;
 
 use hd153108::Clock;
 use hd153108::State;
+use show::calls;
 use show::entry;
 use show::label;
-use show::pixel;
-use show::read;
+use show::pixels;
 use show::registers;
-use show::three;
-use show::write;
 
 fn fresh() -> State {
     let stopped = Clock {
@@ -47,94 +45,72 @@ fn number_entries(t: &mut [u8], first: u8) {
     }
 }
 
-fn address_read() {
-    let mut colours = [0u8; 768];
-    let mut overlays = [0u8; 12];
+fn address_read(colours: &mut [u8], overlays: &mut [u8]) {
     label(b"an address read halfway sets the pointer to red; entry 10 is 7, 2, 1");
-    let s1 = write(fresh(), 0, 16, &mut colours, &mut overlays);
-    let s2 = write(s1, 1, 3, &mut colours, &mut overlays);
-    let s3 = read(s2, 0, &colours, &overlays);
-    three(s3, 1, 7, 2, 1, &mut colours, &mut overlays);
-    entry(b"colour 10:", &colours, 48);
+    let list = [0u8, 16, 1, 3, 16, 0, 1, 7, 1, 2, 1, 1];
+    calls(fresh(), &list, colours, overlays);
+    entry(b"colour 10:", colours, 48);
 }
 
-fn colour_step() {
-    let mut colours = [0u8; 768];
-    let mut overlays = [0u8; 12];
+fn colour_step(colours: &mut [u8], overlays: &mut [u8]) {
     label(b"colours step modulo 256, and take the low four bits");
-    let s1 = write(fresh(), 0, 255, &mut colours, &mut overlays);
-    three(s1, 1, 247, 130, 33, &mut colours, &mut overlays);
-    entry(b"colour ff:", &colours, 765);
-    entry(b"colour 00:", &colours, 0);
+    let list = [0u8, 255, 1, 247, 1, 130, 1, 33];
+    calls(fresh(), &list, colours, overlays);
+    entry(b"colour ff:", colours, 765);
+    entry(b"colour 00:", colours, 0);
 }
 
-fn overlay_step() {
-    let mut colours = [0u8; 768];
-    let mut overlays = [0u8; 12];
+fn overlay_step(colours: &mut [u8], overlays: &mut [u8]) {
     label(b"overlays step in the low two bits: 06 to 07, 07 to 04");
-    let s1 = write(fresh(), 0, 6, &mut colours, &mut overlays);
-    let s2 = three(s1, 3, 1, 2, 3, &mut colours, &mut overlays);
-    three(s2, 3, 4, 5, 6, &mut colours, &mut overlays);
-    entry(b"overlay 2:", &overlays, 6);
-    entry(b"overlay 3:", &overlays, 9);
+    let list = [0u8, 6, 3, 1, 3, 2, 3, 3, 3, 4, 3, 5, 3, 6];
+    calls(fresh(), &list, colours, overlays);
+    entry(b"overlay 2:", overlays, 6);
+    entry(b"overlay 3:", overlays, 9);
 }
 
-fn latches() {
-    let mut colours = [0u8; 768];
-    let mut overlays = [0u8; 12];
+fn latches(colours: &mut [u8], overlays: &mut [u8]) {
     label(b"the tables share the latches; colour 02 stays, overlay 2 is 5, 6, 7");
-    let s1 = write(fresh(), 0, 2, &mut colours, &mut overlays);
-    let s2 = write(s1, 1, 5, &mut colours, &mut overlays);
-    let s3 = write(s2, 3, 6, &mut colours, &mut overlays);
-    let s4 = write(s3, 3, 7, &mut colours, &mut overlays);
-    entry(b"colour 02:", &colours, 6);
-    entry(b"overlay 2:", &overlays, 6);
+    let list = [0u8, 2, 1, 5, 3, 6, 3, 7];
+    let s = calls(fresh(), &list, colours, overlays);
+    entry(b"colour 02:", colours, 6);
+    entry(b"overlay 2:", overlays, 6);
     label(b"an address write keeps the latches");
-    write(s4, 0, 32, &mut colours, &mut overlays);
+    calls(s, &[0u8, 32], colours, overlays);
 }
 
-fn data_reads(colours: &[u8], overlays: &[u8]) {
+fn data_reads(colours: &mut [u8], overlays: &mut [u8]) {
     label(
         b"a data read answers the lent byte as it stands, over 15 too, and steps as a write does",
     );
-    let s1 = State {
+    let s = State {
         address: 254,
         ..fresh()
     };
-    let s2 = read(s1, 1, colours, overlays);
-    let s3 = read(s2, 1, colours, overlays);
-    let s4 = read(s3, 1, colours, overlays);
-    let s5 = read(s4, 3, colours, overlays);
-    let s6 = read(s5, 3, colours, overlays);
-    read(s6, 3, colours, overlays);
+    let list = [17u8, 0, 17, 0, 17, 0, 19, 0, 19, 0, 19, 0];
+    calls(s, &list, colours, overlays);
 }
 
-fn timing() {
-    let mut colours = [0u8; 768];
-    let mut overlays = [0u8; 12];
+fn timing(colours: &mut [u8], overlays: &mut [u8]) {
     label(b"a timing write restarts the blink, with an equal value too; a timing read does not");
-    let s1 = in_off_time(fresh());
-    registers(s1);
-    let s2 = read(s1, 7, &colours, &overlays);
-    registers(s2);
-    let s3 = write(s2, 7, 49, &mut colours, &mut overlays);
-    registers(s3);
+    let s = in_off_time(fresh());
+    registers(s);
+    let read = calls(s, &[23u8, 0], colours, overlays);
+    registers(read);
+    registers(calls(read, &[7u8, 49], colours, overlays));
 }
 
-fn control() {
-    let mut colours = [0u8; 768];
-    let mut overlays = [0u8; 12];
+fn control(colours: &mut [u8], overlays: &mut [u8]) {
     label(b"overlay control's bits 7, 5 and 4 are ignored on write and read as 0");
-    let s1 = write(fresh(), 6, 255, &mut colours, &mut overlays);
-    let s2 = read(s1, 6, &colours, &overlays);
+    let s = calls(fresh(), &[6u8, 255, 22, 0], colours, overlays);
     label(b"the masks are read back as written");
-    let s3 = write(s2, 4, 240, &mut colours, &mut overlays);
-    let s4 = write(s3, 5, 15, &mut colours, &mut overlays);
-    let s5 = read(s4, 4, &colours, &overlays);
-    let s6 = read(s5, 5, &colours, &overlays);
-    registers(s6);
+    let list = [4u8, 240, 5, 15, 20, 0, 21, 0];
+    let masked = calls(s, &list, colours, overlays);
+    registers(masked);
     label(b"a reset zeroes the state, from any state");
-    let bad = State { pointer: 7, ..s6 };
+    let bad = State {
+        pointer: 7,
+        ..masked
+    };
     registers(show::reset(bad));
 }
 
@@ -165,57 +141,59 @@ fn masks<'a>(colours: &'a [u8], overlays: &'a [u8]) {
         blinkmask: 255,
         ..fresh()
     };
-    pixel(masked, colours, overlays, 0, 0, 165);
+    pixels(masked, &[0u8, 0, 165], colours, overlays);
     label(b"blink mask 0f, byte a5: as it is in the on time, entry 05 in the off time");
     let blinking = State {
         blinkmask: 15,
         ..fresh()
     };
-    pixel(blinking, colours, overlays, 0, 0, 165);
-    pixel(in_off_time(blinking), colours, overlays, 0, 0, 165);
+    pixels(blinking, &[0u8, 0, 165], colours, overlays);
+    pixels(in_off_time(blinking), &[0u8, 0, 165], colours, overlays);
+}
+
+fn overlay_masks<'a>(colours: &'a [u8], overlays: &'a [u8]) {
     label(b"overlay control 06, number 3: line 1 is masked, overlay 1 shows");
     let mask = State {
         control: 6,
         ..fresh()
     };
-    pixel(mask, colours, overlays, 1, 3, 0);
+    pixels(mask, &[1u8, 3, 0], colours, overlays);
     label(b"overlay control 04, number 3: line 1 blinks and line 0 does not, overlay 3, then 1");
     let blink = State {
         control: 4,
         ..fresh()
     };
-    pixel(blink, colours, overlays, 1, 3, 0);
-    pixel(in_off_time(blink), colours, overlays, 1, 3, 0);
+    pixels(blink, &[1u8, 3, 0], colours, overlays);
+    pixels(in_off_time(blink), &[1u8, 3, 0], colours, overlays);
 }
 
 fn bit_six<'a>(colours: &'a [u8], overlays: &'a [u8]) {
     label(
-        b"with enable, bit 6 and number 0: colour 21; without bit 6: overlay 0; number 1: overlay 1",
+        b"with enable and bit 6, number 0: colour 21; number 1: overlay 1; without bit 6: overlay 0",
     );
     let six = State {
         control: 64,
         ..fresh()
     };
-    pixel(six, colours, overlays, 1, 0, 33);
-    pixel(fresh(), colours, overlays, 1, 0, 33);
-    pixel(six, colours, overlays, 1, 1, 33);
+    pixels(six, &[1u8, 0, 33, 1, 1, 33], colours, overlays);
+    pixels(fresh(), &[1u8, 0, 33], colours, overlays);
     label(
-        b"bit 6 tests the number as given: number 1, masked to 0 by bit 0 or by the off time, shows overlay 0",
+        b"bit 6 tests the number as given: number 1, masked to 0 by bit 0 or in the off time: overlay 0",
     );
     let masked = State {
         control: 65,
         ..fresh()
     };
-    pixel(masked, colours, overlays, 1, 1, 33);
-    pixel(in_off_time(six), colours, overlays, 1, 1, 33);
+    pixels(masked, &[1u8, 1, 33], colours, overlays);
+    pixels(in_off_time(six), &[1u8, 1, 33], colours, overlays);
 }
 
-fn refusals() {
-    let mut colours = [0u8; 768];
-    let mut overlays = [0u8; 12];
+fn no_access(colours: &mut [u8], overlays: &mut [u8]) {
     label(b"select 2 is reserved, and there is no select 8");
-    let s = write(fresh(), 2, 85, &mut colours, &mut overlays);
-    read(s, 8, &colours, &overlays);
+    calls(fresh(), &[2u8, 85, 24, 0], colours, overlays);
+}
+
+fn out_of_range(colours: &mut [u8], overlays: &mut [u8]) {
     label(
         b"a state out of range is 9, with a bad select too; a wrong length is 1, whatever else is wrong",
     );
@@ -223,35 +201,51 @@ fn refusals() {
         pointer: 3,
         ..fresh()
     };
-    write(bad, 0, 85, &mut colours, &mut overlays);
-    read(bad, 2, &colours, &overlays);
-    write(bad, 2, 85, &mut overlays, &mut colours);
-    label(
-        b"a pixel's enable is 0 or 1, and its number 0 to 3, with the enable off too; refused it shows no byte",
-    );
-    pixel(fresh(), &colours, &overlays, 2, 0, 33);
-    pixel(fresh(), &colours, &overlays, 0, 4, 33);
-    pixel(fresh(), &colours, &overlays, 0, 3, 33);
+    calls(bad, &[0u8, 85, 18, 0], colours, overlays);
+    calls(bad, &[2u8, 85], overlays, colours);
 }
 
-fn numbered() {
+fn pixel_refusals<'a>(colours: &'a [u8], overlays: &'a [u8]) {
+    label(
+        b"a pixel's enable is 0 or 1, its number 0 to 3, with the enable off too; refused it shows no byte",
+    );
+    pixels(
+        fresh(),
+        &[2u8, 0, 33, 0, 4, 33, 0, 3, 33],
+        colours,
+        overlays,
+    );
+}
+
+// The accesses, on tables of zeros.
+fn accesses() {
+    let mut colours = [0u8; 768];
+    let mut overlays = [0u8; 12];
+    address_read(&mut colours, &mut overlays);
+    colour_step(&mut colours, &mut overlays);
+    overlay_step(&mut colours, &mut overlays);
+    latches(&mut colours, &mut overlays);
+    timing(&mut colours, &mut overlays);
+    control(&mut colours, &mut overlays);
+    no_access(&mut colours, &mut overlays);
+    out_of_range(&mut colours, &mut overlays);
+}
+
+// The reads and the pixels, on numbered entries.
+fn entries() {
     let mut colours = [0u8; 768];
     let mut overlays = [0u8; 12];
     number_entries(&mut colours, 0);
     number_entries(&mut overlays, 240);
-    data_reads(&colours, &overlays);
+    data_reads(&mut colours, &mut overlays);
     masks(&colours, &overlays);
+    overlay_masks(&colours, &overlays);
     bit_six(&colours, &overlays);
+    pixel_refusals(&colours, &overlays);
 }
 
 fn main() {
-    address_read();
-    colour_step();
-    overlay_step();
-    latches();
-    timing();
-    control();
+    accesses();
     period();
-    refusals();
-    numbered();
+    entries();
 }

@@ -6,31 +6,22 @@ use Rattle.hd153108.specs.Hd153108.{ranges}
 use borrow.Author.Needs.{needs}
 use Rattle.hd153108.proofs.good.Statement.{statement}
 use Rattle.hd153108.proofs.good.Tie as tie
-use Rattle.hd153108.proofs.good.Reads as reads
-use Rattle.hd153108.proofs.good.Lts as lts
-use Rattle.hd153108.proofs.period_of.Reads as period-of-reads
 
--- src/lib.rt:132:9
 returns : tie.Need-returns
 returns c = sym (not-meets _ (λ g. omega arith))
 
--- src/lib.rt:135:9
 returns-2 : tie.Need-returns-2
 returns-2 c = sym (not-meets _ (λ g. omega arith))
 
--- src/lib.rt:138:9
 returns-3 : tie.Need-returns-3
 returns-3 c = sym (not-meets _ (λ g. omega arith))
 
--- src/lib.rt:141:9
 returns-4 : tie.Need-returns-4
 returns-4 c = sym (not-meets _ (λ g. c .if4 .taken (g .1 .1 .1 .1 .1 .1 .1 .0)))
 
--- src/lib.rt:144:18
 period-of-requires : tie.Need-period-of-requires
 period-of-requires c κs = search needs
 
--- src/lib.rt:128:1
 returns-5 : tie.Need-returns-5
 returns-5 c =
     let s = c .before .before .before .before .before .before .before .before .before .before .before .args .s in

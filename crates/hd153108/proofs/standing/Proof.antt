@@ -5,30 +5,22 @@ use Rattle.hd153108.proofs.Access.{stands-short, stands-outside, stands
 use borrow.Author.Needs.{needs}
 use Rattle.hd153108.proofs.standing.Statement.{statement}
 use Rattle.hd153108.proofs.standing.Tie as tie
-use Rattle.hd153108.proofs.standing.Reads as reads
-use Rattle.hd153108.proofs.standing.Lts as lts
-use Rattle.hd153108.proofs.good.Reads as good-reads
 
--- src/lib.rt:152:9
 returns : tie.Need-returns
 returns c = stands-short _ (not-fails _ (λ g. c .if1 .taken (g .0)))
 
--- src/lib.rt:155:9
 returns-2 : tie.Need-returns-2
 returns-2 c = stands-short _ (not-fails _ (λ g. c .if2 .taken (g .1 .0)))
 
--- src/lib.rt:157:9
 good-requires : tie.Need-good-requires
 good-requires c κs = search needs
 
--- src/lib.rt:158:9
 returns-3 : tie.Need-returns-3
 returns-3 c =
     stands-outside
     (holds-passes _ (c .before .before .before .if1 .left, (c .before .before .if2 .left, tt)))
     (misses-fails _ (sym (c .before .good2 .ensures) ∙ not-true _ (c .if3 .taken)))
 
--- src/lib.rt:148:1
 returns-4 : tie.Need-returns-4
 returns-4 c =
     stands

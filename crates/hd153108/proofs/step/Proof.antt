@@ -5,27 +5,19 @@ use Rattle.hd153108.specs.Hd153108.{tick}
 use borrow.Author.Needs.{needs}
 use Rattle.hd153108.proofs.step.Statement.{statement}
 use Rattle.hd153108.proofs.step.Tie as tie
-use Rattle.hd153108.proofs.step.Reads as reads
-use Rattle.hd153108.proofs.step.Lts as lts
-use Rattle.hd153108.proofs.period_of.Reads as period-of-reads
 
--- src/lib.rt:311:9
 period-of-requires : tie.Need-period-of-requires
 period-of-requires c κs = search needs
 
--- src/lib.rt:313:9
 returns : tie.Need-returns
 returns c = tick-refused _ _ _ (c .before .period-of .ensures) (c .if1 .taken)
 
--- src/lib.rt:320:20
 add-t5 : tie.Need-add-t5
 add-t5 c = search needs
 
--- src/lib.rt:320:19
 rem-t6 : tie.Need-rem-t6
 rem-t6 c = search needs
 
--- src/lib.rt:308:1
 returns-2 : tie.Need-returns-2
 returns-2 c = tick-accepted _ _ _ (c .before .period-of .ensures) (search needs) (c .if1 .left)
 

@@ -3,33 +3,24 @@ use Rattle.hd153108.proofs.Access.{is-red, is-green, is-blue}
 use borrow.Author.Needs.{needs}
 use Rattle.hd153108.proofs.stepped.Statement.{statement}
 use Rattle.hd153108.proofs.stepped.Tie as tie
-use Rattle.hd153108.proofs.stepped.Reads as reads
-use Rattle.hd153108.proofs.stepped.Lts as lts
-use Rattle.hd153108.proofs.port.Reads as port-reads
 
--- src/lib.rt:211:14
 port-requires : tie.Need-port-requires
 port-requires c κs = search needs
 
--- src/lib.rt:212:14
 port-requires-2 : tie.Need-port-requires-2
 port-requires-2 c κs = search needs
 
--- src/lib.rt:213:14
 port-requires-3 : tie.Need-port-requires-3
 port-requires-3 c κs = search needs
 
--- src/lib.rt:206:1
 returns : tie.Need-returns
 unfolding stepped
 returns c = rw (is-red _ (c .before .match .keys1)) (c .port .ensures)
 
--- src/lib.rt:206:1
 returns-2 : tie.Need-returns-2
 unfolding stepped
 returns-2 c = rw (is-green _ (c .before .match .keys2)) (c .port2 .ensures)
 
--- src/lib.rt:206:1
 returns-3 : tie.Need-returns-3
 unfolding stepped
 returns-3 c = rw (is-blue _ (c .before .match .rest .0 .1) (c .before .match .rest .1)) (c .port3 .ensures)

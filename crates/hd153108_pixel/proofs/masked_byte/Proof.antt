@@ -4,25 +4,19 @@ use Rattle.hd153108_pixel.proofs.Masks.{masked-on, masked-off}
 use borrow.Author.Needs.{needs}
 use Rattle.hd153108_pixel.proofs.masked_byte.Statement.{statement}
 use Rattle.hd153108_pixel.proofs.masked_byte.Tie as tie
-use Rattle.hd153108_pixel.proofs.masked_byte.Reads as reads
-use Rattle.hd153108_pixel.proofs.masked_byte.Lts as lts
 
--- src/lib.rt:41:24
 sub-result : tie.Need-sub-result
 sub-result c = search needs
 
--- src/lib.rt:41:9
 returns : tie.Need-returns
 returns c =
     let a = c .before .args in
     let on = masked-on 8 0 (a .read) (a .blink) (a .byte) (255 - a .read) (omega arith) (omega arith) in
     rw (c .if1 .taken, on, masked-off 8 (a .read) (a .blink) (a .byte))
 
--- src/lib.rt:43:13
 sub-result-2 : tie.Need-sub-result-2
 sub-result-2 c = search needs
 
--- src/lib.rt:37:1
 returns-2 : tie.Need-returns-2
 returns-2 c =
     let a = c .before .args in

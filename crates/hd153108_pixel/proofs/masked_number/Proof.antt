@@ -4,25 +4,19 @@ use Rattle.hd153108_pixel.proofs.Masks.{masked-on, masked-off}
 use borrow.Author.Needs.{needs}
 use Rattle.hd153108_pixel.proofs.masked_number.Statement.{statement}
 use Rattle.hd153108_pixel.proofs.masked_number.Tie as tie
-use Rattle.hd153108_pixel.proofs.masked_number.Reads as reads
-use Rattle.hd153108_pixel.proofs.masked_number.Lts as lts
 
--- src/lib.rt:52:26
 sub-result : tie.Need-sub-result
 sub-result c = search needs
 
--- src/lib.rt:52:9
 returns : tie.Need-returns
 returns c =
     let a = c .before .args in
     let on = masked-on 2 6 (a .control) (a .control / 4) (a .number) (255 - a .control) (omega arith) (omega arith) in
     rw (c .if1 .taken, on, masked-off 2 (a .control) (a .control / 4) (a .number))
 
--- src/lib.rt:54:15
 sub-result-2 : tie.Need-sub-result-2
 sub-result-2 c = search needs
 
--- src/lib.rt:47:1
 returns-2 : tie.Need-returns-2
 returns-2 c =
     let a = c .before .args in

@@ -6,14 +6,6 @@ use Rattle.hd153108_pixel.proofs.Rule.{picked-first, picked-outside, pi
 use borrow.Author.Needs.{needs}
 use Rattle.hd153108_pixel.proofs.picked.Statement.{statement}
 use Rattle.hd153108_pixel.proofs.picked.Tie as tie
-use Rattle.hd153108_pixel.proofs.picked.Reads as reads
-use Rattle.hd153108_pixel.proofs.picked.Lts as lts
-use Rattle.hd153108.proofs.blink_off.Reads as blink-off-reads
-use Rattle.hd153108.proofs.standing.Reads as standing-reads
-use Rattle.hd153108_pixel.proofs.masked_byte.Reads as masked-byte-reads
-use Rattle.hd153108_pixel.proofs.masked_number.Reads as masked-number-reads
-use Rattle.hd153108_pixel.proofs.shows_colour.Reads as shows-colour-reads
-use Rattle.hd153108_pixel.proofs.wide.Reads as wide-reads
 
 -- past what every call tries first
 abbrev at : tie.Else1 → Chip
@@ -22,39 +14,30 @@ at c = let a = c .before .before .before .before .args in chip (a .s) (a .colour
 clear : (c : tie.Else1) → tried (at c) ≡ 0
 clear c = sym (c .before .standing .ensures) ∙ c .if1 .left
 
--- src/lib.rt:74:9
 standing-requires : tie.Need-standing-requires
 standing-requires c κs = search needs
 
--- src/lib.rt:76:9
 returns : tie.Need-returns
 returns c = picked-first _ _ _ _ (c .before .standing .ensures) (c .if1 .taken)
 
--- src/lib.rt:79:9
 returns-2 : tie.Need-returns-2
 returns-2 c = picked-outside _ _ _ _ (clear (c .before)) (λ g. omega arith)
 
--- src/lib.rt:82:9
 returns-3 : tie.Need-returns-3
 returns-3 c = picked-outside _ _ _ _ (clear (c .before .before)) (λ g. omega arith)
 
--- src/lib.rt:85:9
 blink-off-requires : tie.Need-blink-off-requires
 blink-off-requires c κs = search needs
 
--- src/lib.rt:86:8
 shows-colour-requires : tie.Need-shows-colour-requires
 shows-colour-requires c κs = search needs
 
--- src/lib.rt:87:34
 masked-byte-requires : tie.Need-masked-byte-requires
 masked-byte-requires c κs = search needs
 
--- src/lib.rt:87:29
 wide-requires : tie.Need-wide-requires
 wide-requires c κs = search needs
 
--- src/lib.rt:87:9
 returns-4 : tie.Need-returns-4
 unfolding shownEntry
 returns-4 c =
@@ -63,22 +46,20 @@ returns-4 c =
     (sym (c .before .before .before .shows-colour .ensures) ∙ c .before .before .if4 .taken)
     (c .wide .ensures ∙ c .before .masked-byte .ensures ∙ rw (c .before .before .before .before .blink-off .ensures))
 
--- src/lib.rt:89:24
 masked-number-requires : tie.Need-masked-number-requires
 masked-number-requires c κs = search needs
 
--- src/lib.rt:89:19
 wide-requires-2 : tie.Need-wide-requires-2
 wide-requires-2 c κs = search needs
 
--- src/lib.rt:71:1
 returns-5 : tie.Need-returns-5
 unfolding shownEntry
 returns-5 c =
     let e = c .before .before .before .before .before .before .before in
     picked-overlay _ _ _ _ (clear e) (search needs) (search needs) _
     (sym (c .before .before .before .shows-colour .ensures) ∙ c .before .before .if4 .left)
-    (c .wide2 .ensures ∙ c .before .masked-number .ensures ∙ rw (c .before .before .before .before .blink-off .ensures))
+    (c .wide2 .ensures ∙ c .before .masked-number .ensures ∙ rw (c .before .before .before .before .blink-off
+    .ensures))
 
 pub picked-spec : {M : Type 1} → statement M
 picked-spec =

@@ -7,93 +7,70 @@ use Rattle.hd153108_pixel.proofs.Rule.{means-as, inside-as, three}
 use borrow.Author.Needs.{needs}
 use Rattle.hd153108_pixel.proofs.pixel.Statement.{statement}
 use Rattle.hd153108_pixel.proofs.pixel.Tie as tie
-use Rattle.hd153108_pixel.proofs.pixel.Reads as reads
-use Rattle.hd153108_pixel.proofs.pixel.Lts as lts
-use Rattle.hd153108_pixel.proofs.picked.Reads as picked-reads
 
--- src/lib.rt:104:9
 picked-requires : tie.Need-picked-requires
 picked-requires c κs = search needs
 
--- src/lib.rt:106:22
 enum-known-p : tie.Need-enum-known-p
 enum-known-p c = search needs
 
--- src/lib.rt:107:22
 mul-at : tie.Need-mul-at
 mul-at c = omega (arith, inside-as (c .before .before .before .picked .ensures) (c .before .p .given .1))
 
--- src/lib.rt:108:26
 add-result : tie.Need-add-result
 add-result c = omega (arith, inside-as (c .before .before .before .picked .ensures) (c .before .p .given .1))
 
--- src/lib.rt:108:13
 sub-result : tie.Need-sub-result
 sub-result c = search needs
 
--- src/lib.rt:108:13
 part-result-start : tie.Need-part-result-start
 part-result-start c = search needs
 
--- src/lib.rt:108:13
 part-result-end : tie.Need-part-result-end
 part-result-end c = omega (arith, inside-as (c .before .before .before .picked .ensures) (c .before .p .given .1))
 
--- src/lib.rt:110:23
 enum-known-p-2 : tie.Need-enum-known-p-2
 enum-known-p-2 c = search needs
 
--- src/lib.rt:111:22
 mul-at-2 : tie.Need-mul-at-2
 mul-at-2 c = omega (arith, inside-as (c .before .before .before .picked .ensures) (c .before .p2 .given .1))
 
--- src/lib.rt:112:27
 add-result-2 : tie.Need-add-result-2
 add-result-2 c = omega (arith, inside-as (c .before .before .before .picked .ensures) (c .before .p2 .given .1))
 
--- src/lib.rt:112:13
 sub-result-2 : tie.Need-sub-result-2
 sub-result-2 c = search needs
 
--- src/lib.rt:112:13
 part-result-start-2 : tie.Need-part-result-start-2
 part-result-start-2 c = search needs
 
--- src/lib.rt:112:13
 part-result-end-2 : tie.Need-part-result-end-2
 part-result-end-2 c = omega (arith, inside-as (c .before .before .before .picked .ensures) (c .before .p2 .given .1))
 
--- src/lib.rt:114:29
 enum-told : tie.Need-enum-told
 enum-told c = search needs
 
--- src/lib.rt:114:29
 sub-result-3 : tie.Need-sub-result-3
 sub-result-3 c = search needs
 
--- src/lib.rt:114:29
 part-result-start-3 : tie.Need-part-result-start-3
 part-result-start-3 c = search needs
 
--- src/lib.rt:114:29
 part-result-end-3 : tie.Need-part-result-end-3
 part-result-end-3 c = search needs
 
--- src/lib.rt:93:1
 returns : tie.Need-returns
 returns c =
     simp three
     (ap (λ (o : Outcome (List ℕ)). o .left)
     (means-as (c .before .before .before .before .picked .ensures) (c .before .before .p .given .1) []))
 
--- src/lib.rt:93:1
 returns-2 : tie.Need-returns-2
 returns-2 c =
     simp three
     (ap (λ (o : Outcome (List ℕ)). o .left)
     (means-as (c .before .before .before .before .picked .ensures) (c .before .before .p2 .given .1) []))
 
--- src/lib.rt:93:1
 returns-3 : tie.Need-returns-3
 returns-3 c =
     ap (λ (o : Outcome (List ℕ)). o .left)

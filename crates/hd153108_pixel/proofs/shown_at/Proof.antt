@@ -4,34 +4,25 @@ use Rattle.hd153108_pixel.proofs.Rule.{bytes-at}
 use borrow.Author.Needs.{needs}
 use Rattle.hd153108_pixel.proofs.shown_at.Statement.{statement}
 use Rattle.hd153108_pixel.proofs.shown_at.Tie as tie
-use Rattle.hd153108_pixel.proofs.shown_at.Reads as reads
-use Rattle.hd153108_pixel.proofs.shown_at.Lts as lts
 
--- src/lib.rt:143:14
 mul-at : tie.Need-mul-at
 mul-at c = search needs
 
--- src/lib.rt:146:14
 shared-slice-read-t5 : tie.Need-shared-slice-read-t5
 shared-slice-read-t5 c = search needs
 
--- src/lib.rt:147:18
 add-t6 : tie.Need-add-t6
 add-t6 c = search needs
 
--- src/lib.rt:147:16
 shared-slice-read-t8 : tie.Need-shared-slice-read-t8
 shared-slice-read-t8 c = search needs
 
--- src/lib.rt:148:17
 add-t9 : tie.Need-add-t9
 add-t9 c = search needs
 
--- src/lib.rt:148:15
 shared-slice-read-t11 : tie.Need-shared-slice-read-t11
 shared-slice-read-t11 c = search needs
 
--- src/lib.rt:139:1
 returns : tie.Need-returns
 returns c = ap (accepting 0 0) (bytes-at _ _ (c .before .before .before .pre))
 

@@ -3,19 +3,14 @@ use Rattle.hd153108.specs.Hd153108.{selected}
 use Rattle.hd153108_pixel.proofs.Rule.{never-on, none-on}
 use Rattle.hd153108_pixel.proofs.shows_colour.Statement.{statement}
 use Rattle.hd153108_pixel.proofs.shows_colour.Tie as tie
-use Rattle.hd153108_pixel.proofs.shows_colour.Reads as reads
-use Rattle.hd153108_pixel.proofs.shows_colour.Lts as lts
 
--- src/lib.rt:62:9
 returns : tie.Need-returns
 unfolding selected
 returns c = rw (c .if1 .taken) refl
 
--- src/lib.rt:65:9
 returns-2 : tie.Need-returns-2
 returns-2 c = rw (c .if2 .taken) (never-on _ _ (c .before .if1 .left))
 
--- src/lib.rt:58:1
 returns-3 : tie.Need-returns-3
 returns-3 c = none-on _ _ _ (c .before .if1 .left) (c .if2 .left)
 

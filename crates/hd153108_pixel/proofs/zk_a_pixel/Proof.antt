@@ -4,44 +4,33 @@ use Rattle.hd153108_pixel.proofs.Rule.{means-as, inside-as}
 use borrow.Author.Needs.{needs}
 use Rattle.hd153108_pixel.proofs.zk_a_pixel.Statement.{statement}
 use Rattle.hd153108_pixel.proofs.zk_a_pixel.Tie as tie
-use Rattle.hd153108_pixel.proofs.zk_a_pixel.Reads as reads
-use Rattle.hd153108_pixel.proofs.zk_a_pixel.Lts as lts
-use Rattle.hd153108_pixel.proofs.picked.Reads as picked-reads
-use Rattle.hd153108_pixel.proofs.shown_at.Reads as shown-at-reads
 
--- src/lib.rt:165:9
 picked-requires : tie.Need-picked-requires
 picked-requires c κs = search needs
 
--- src/lib.rt:167:22
 enum-known-p : tie.Need-enum-known-p
 enum-known-p c = search needs
 
--- src/lib.rt:167:28
 shown-at-requires : tie.Need-shown-at-requires
 shown-at-requires c κs = inside-as (c .before .before .before .picked .ensures) (c .before .p .given .1)
 
--- src/lib.rt:168:23
 enum-known-p-2 : tie.Need-enum-known-p-2
 enum-known-p-2 c = search needs
 
--- src/lib.rt:168:29
 shown-at-requires-2 : tie.Need-shown-at-requires-2
 shown-at-requires-2 c κs = inside-as (c .before .before .before .picked .ensures) (c .before .p2 .given .1)
 
--- src/lib.rt:169:23
 enum-known-p-3 : tie.Need-enum-known-p-3
 enum-known-p-3 c = search needs
 
--- src/lib.rt:153:1
 returns : tie.Need-returns
-returns c = c .shown-at .ensures ∙ means-as (c .before .before .before .before .picked .ensures) (c .before .before .p .given .1) _
+returns c = c .shown-at .ensures ∙ means-as (c .before .before .before .before .picked .ensures) (c .before .before .p
+    .given .1) _
 
--- src/lib.rt:153:1
 returns-2 : tie.Need-returns-2
-returns-2 c = c .shown-at2 .ensures ∙ means-as (c .before .before .before .before .picked .ensures) (c .before .before .p2 .given .1) _
+returns-2 c = c .shown-at2 .ensures ∙ means-as (c .before .before .before .before .picked .ensures) (c .before .before
+    .p2 .given .1) _
 
--- src/lib.rt:153:1
 returns-3 : tie.Need-returns-3
 returns-3 c = means-as (c .before .before .before .picked .ensures) (c .before .p3 .given .1) (0 ∷ 0 ∷ 0 ∷ [])
 

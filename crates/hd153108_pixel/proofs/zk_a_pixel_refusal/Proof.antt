@@ -6,40 +6,33 @@ use Rattle.hd153108_pixel.proofs.Rule.{means-as}
 use borrow.Author.Needs.{needs}
 use Rattle.hd153108_pixel.proofs.zk_a_pixel_refusal.Statement.{statement}
 use Rattle.hd153108_pixel.proofs.zk_a_pixel_refusal.Tie as tie
-use Rattle.hd153108_pixel.proofs.zk_a_pixel_refusal.Reads as reads
-use Rattle.hd153108_pixel.proofs.zk_a_pixel_refusal.Lts as lts
-use Rattle.hd153108_pixel.proofs.picked.Reads as picked-reads
 
--- src/lib.rt:130:9
 picked-requires : tie.Need-picked-requires
 picked-requires c κs = search needs
 
--- src/lib.rt:132:28
 enum-told : tie.Need-enum-told
 enum-told c = search needs
 
--- src/lib.rt:133:29
 enum-told-2 : tie.Need-enum-told-2
 enum-told-2 c = search needs
 
--- src/lib.rt:134:23
 enum-known-p : tie.Need-enum-known-p
 enum-known-p c = search needs
 
--- src/lib.rt:119:1
 returns : tie.Need-returns
 returns c =
-    ap (λ (o : Outcome (List ℕ)). o .refusal) (means-as (c .before .before .picked .ensures) (c .enum-told .given .1) [])
+    ap (λ (o : Outcome (List ℕ)). o .refusal) (means-as (c .before .before .picked .ensures) (c .enum-told .given .1)
+    [])
 
--- src/lib.rt:119:1
 returns-2 : tie.Need-returns-2
 returns-2 c =
-    ap (λ (o : Outcome (List ℕ)). o .refusal) (means-as (c .before .before .picked .ensures) (c .enum-told2 .given .1) [])
+    ap (λ (o : Outcome (List ℕ)). o .refusal) (means-as (c .before .before .picked .ensures) (c .enum-told2 .given .1)
+    [])
 
--- src/lib.rt:119:1
 returns-3 : tie.Need-returns-3
 returns-3 c =
-    ap (λ (o : Outcome (List ℕ)). o .refusal) (means-as (c .before .before .before .picked .ensures) (c .before .p .given .1) [])
+    ap (λ (o : Outcome (List ℕ)). o .refusal) (means-as (c .before .before .before .picked .ensures) (c .before .p
+    .given .1) [])
 
 pub zk-a-pixel-refusal-spec : {M : Type 1} → statement M
 zk-a-pixel-refusal-spec =

@@ -4,9 +4,6 @@ use mathlib.Core.Path.{_≡_}
 use lib.ListN.{length}
 use Rattle.hd153108_vectors.proofs.number_entries.Statement.{statement}
 use Rattle.hd153108_vectors.proofs.number_entries.Tie as tie
-use Rattle.hd153108_vectors.proofs.number_entries.Reads as reads
-use Rattle.hd153108_vectors.proofs.number_entries.Lts as lts
-use Rattle.std.proofs.num.wrapping_add_u8.Reads as wrapping-add-u8-reads
 
 abbrev Inv-loop : tie.InvT-loop
 Inv-loop t₀ first i₀ i-end t i = (length t ≡ length t₀) × (i-end ≡ length t₀)
@@ -14,39 +11,30 @@ Inv-loop t₀ first i₀ i-end t i = (length t ≡ length t₀) × (i-end ≡ le
 abbrev μ-loop : tie.MeasureT-loop
 μ-loop t₀ first i₀ i-end t i = i-end - i
 
--- src/main.rt:45:5
 loop-holds : tie.Need-loop-holds Inv-loop μ-loop
 loop-holds c = search needs
 
--- src/main.rt:46:49
 cast-wrapping-add-u8 : tie.Need-cast-wrapping-add-u8 Inv-loop μ-loop
 cast-wrapping-add-u8 c = search needs
 
--- src/main.rt:46:16
 wrapping-add-u8-requires : tie.Need-wrapping-add-u8-requires Inv-loop μ-loop
 wrapping-add-u8-requires c κs = search needs
 
--- src/main.rt:46:9
 slice-write-t : tie.Need-slice-write-t Inv-loop μ-loop
 slice-write-t c = search needs
 
--- src/main.rt:45:9
 add-i : tie.Need-add-i Inv-loop μ-loop
 add-i c = search needs
 
--- src/main.rt:45:5
 loop-less : tie.Need-loop-less Inv-loop μ-loop
 loop-less c = search needs
 
--- src/main.rt:45:5
 loop-again : tie.Need-loop-again Inv-loop μ-loop
 loop-again c = search needs
 
--- src/main.rt:44:1
 same-length : tie.Need-same-length Inv-loop μ-loop
 same-length c = search needs
 
--- src/main.rt:44:1
 returns : tie.Need-returns Inv-loop μ-loop
 returns c = search needs
 

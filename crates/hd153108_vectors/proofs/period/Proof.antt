@@ -2,12 +2,6 @@ use borrow.Author.Needs.{needs}
 use Prim.Native.Nat.{_-_, _≤_}
 use Rattle.hd153108_vectors.proofs.period.Statement.{statement}
 use Rattle.hd153108_vectors.proofs.period.Tie as tie
-use Rattle.hd153108_vectors.proofs.period.Reads as reads
-use Rattle.hd153108_vectors.proofs.period.Lts as lts
-use Rattle.hd153108.proofs.zk_a_step.Reads as zk-a-step-reads
-use Rattle.hd153108_vectors.proofs.show.clock.Reads as clock-reads
-use Rattle.hd153108_vectors.proofs.show.label.Reads as label-reads
-use Rattle.hd153108_vectors.proofs.show.step.Reads as step-reads
 
 abbrev Inv-loop : tie.InvT-loop
 Inv-loop k₀ t5 counter₀ k counter = counter ≤ 24
@@ -15,55 +9,42 @@ Inv-loop k₀ t5 counter₀ k counter = counter ≤ 24
 abbrev μ-loop : tie.MeasureT-loop
 μ-loop k₀ t5 counter₀ k counter = 24 - counter
 
--- src/main.rt:147:11
 slice-aggregate-label : tie.Need-slice-aggregate-label Inv-loop μ-loop
 slice-aggregate-label c = search needs
 
--- src/main.rt:147:5
 label-requires : tie.Need-label-requires Inv-loop μ-loop
 label-requires c κs = search needs
 
--- src/main.rt:152:5
 clock-requires : tie.Need-clock-requires Inv-loop μ-loop
 clock-requires c κs = search needs
 
--- src/main.rt:153:5
 loop-holds : tie.Need-loop-holds Inv-loop μ-loop
 loop-holds c = search needs
 
--- src/main.rt:154:13
 zk-a-step-requires : tie.Need-zk-a-step-requires Inv-loop μ-loop
 zk-a-step-requires c κs = search needs
 
--- src/main.rt:156:9
 clock-requires-2 : tie.Need-clock-requires-2 Inv-loop μ-loop
 clock-requires-2 c κs = search needs
 
--- src/main.rt:153:9
 add-counter : tie.Need-add-counter Inv-loop μ-loop
 add-counter c = search needs
 
--- src/main.rt:153:5
 loop-less : tie.Need-loop-less Inv-loop μ-loop
 loop-less c = search needs
 
--- src/main.rt:153:5
 loop-again : tie.Need-loop-again Inv-loop μ-loop
 loop-again c = search needs
 
--- src/main.rt:158:11
 slice-aggregate-label-2 : tie.Need-slice-aggregate-label-2 Inv-loop μ-loop
 slice-aggregate-label-2 c = search needs
 
--- src/main.rt:158:5
 label-requires-2 : tie.Need-label-requires-2 Inv-loop μ-loop
 label-requires-2 c κs = search needs
 
--- src/main.rt:163:5
 step-requires : tie.Need-step-requires Inv-loop μ-loop
 step-requires c κs = search needs
 
--- src/main.rt:146:1
 returns : tie.Need-returns Inv-loop μ-loop
 returns c = search needs
 

@@ -2,10 +2,6 @@ use borrow.Author.Needs.{needs}
 use Prim.Native.Nat.{_-_}
 use Rattle.hd153108_vectors.proofs.show.bytes.Statement.{statement}
 use Rattle.hd153108_vectors.proofs.show.bytes.Tie as tie
-use Rattle.hd153108_vectors.proofs.show.bytes.Reads as reads
-use Rattle.hd153108_vectors.proofs.show.bytes.Lts as lts
-use Rattle.hd153108_vectors.proofs.show.text.Reads as text-reads
-use Rattle.hd153108_vectors.proofs.show.two.Reads as two-reads
 
 abbrev Inv-loop : tie.InvT-loop
 Inv-loop t i₀ t3 t4 i-end i = Unit {0}
@@ -13,43 +9,36 @@ Inv-loop t i₀ t3 t4 i-end i = Unit {0}
 abbrev μ-loop : tie.MeasureT-loop
 μ-loop t i₀ t3 t4 i-end i = i-end - i
 
--- src/show.rt:109:5
 loop-holds : tie.Need-loop-holds Inv-loop μ-loop
 loop-holds c = search needs
 
--- src/show.rt:110:13
-slice-aggregate-two : tie.Need-slice-aggregate-two Inv-loop μ-loop
-slice-aggregate-two c = search needs
+slice-aggregate-write-all : tie.Need-slice-aggregate-write-all Inv-loop μ-loop
+slice-aggregate-write-all c = search needs
 
--- src/show.rt:110:19
-shared-slice-read-two : tie.Need-shared-slice-read-two Inv-loop μ-loop
-shared-slice-read-two c = search needs
+write-all-requires : tie.Need-write-all-requires Inv-loop μ-loop
+write-all-requires c κs = search needs
 
--- src/show.rt:110:9
-two-requires : tie.Need-two-requires Inv-loop μ-loop
-two-requires c κs = search needs
+shared-slice-read-hex : tie.Need-shared-slice-read-hex Inv-loop μ-loop
+shared-slice-read-hex c = search needs
 
--- src/show.rt:109:9
+hex-requires : tie.Need-hex-requires Inv-loop μ-loop
+hex-requires c κs = search needs
+
 add-i : tie.Need-add-i Inv-loop μ-loop
 add-i c = search needs
 
--- src/show.rt:109:5
 loop-less : tie.Need-loop-less Inv-loop μ-loop
 loop-less c = search needs
 
--- src/show.rt:109:5
 loop-again : tie.Need-loop-again Inv-loop μ-loop
 loop-again c = search needs
 
--- src/show.rt:112:10
-slice-aggregate-text : tie.Need-slice-aggregate-text Inv-loop μ-loop
-slice-aggregate-text c = search needs
+slice-aggregate-write-all-2 : tie.Need-slice-aggregate-write-all-2 Inv-loop μ-loop
+slice-aggregate-write-all-2 c = search needs
 
--- src/show.rt:112:5
-text-requires : tie.Need-text-requires Inv-loop μ-loop
-text-requires c κs = search needs
+write-all-requires-2 : tie.Need-write-all-requires-2 Inv-loop μ-loop
+write-all-requires-2 c κs = search needs
 
--- src/show.rt:108:1
 returns : tie.Need-returns Inv-loop μ-loop
 returns c = search needs
 
@@ -60,12 +49,13 @@ bytes-spec =
     Inv-loop
     μ-loop
     loop-holds
-    slice-aggregate-two
-    shared-slice-read-two
-    two-requires
+    slice-aggregate-write-all
+    write-all-requires
+    shared-slice-read-hex
+    hex-requires
     add-i
     loop-less
     loop-again
-    slice-aggregate-text
-    text-requires
+    slice-aggregate-write-all-2
+    write-all-requires-2
     returns)
