@@ -1,2 +1,5 @@
 pub mod Access
+pub mod Data
+pub mod Masks
 pub mod Blink
+pub mod Pixel

@@ -21,7 +21,7 @@ use Rattle.hd153108.proofs.Access.{tried, known, stops}
 use Rattle.hd153108_pixel.specs.declared.Pick.{Pick}
 use Rattle.hd153108_pixel.specs.declared.Pick.the-variants.{Colour, Overlay, Refused}
 use Rattle.hd153108_pixel.specs.Picked.{isColour, meaning, Inside, Picked}
-use Rattle.hd153108_pixel.proofs.Masks.{masked-fits}
+use Rattle.hd153108.proofs.Masks.{masked-fits}
 
 -- what fails a part of the ranges fails them
 fails-part : (cs bs : List Bound) → fails cs ≡ true → fails (cs ++ bs) ≡ true

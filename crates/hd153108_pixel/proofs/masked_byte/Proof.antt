@@ -1,6 +1,6 @@
 use Prim.Native.Nat.{_-_}
 use native.Mathlib.Omega.{arith}
-use Rattle.hd153108_pixel.proofs.Masks.{masked-on, masked-off}
+use Rattle.hd153108.proofs.Masks.{masked-on, masked-off}
 use borrow.Author.Needs.{needs}
 use Rattle.hd153108_pixel.proofs.masked_byte.Statement.{statement}
 use Rattle.hd153108_pixel.proofs.masked_byte.Tie as tie
