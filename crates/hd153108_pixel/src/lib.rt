@@ -125,7 +125,8 @@ pub extern "C" fn zk_a_pixel_refusal(
     number: u8,
     byte: u8,
 ) -> u8
-    ensures { λ r. ⌜ r ≡ pixelOf enable number byte (chip s (now (colours .entry)) (now (overlays .entry))) .refusal ⌝ }
+    ensures { λ r. ⌜ r
+        ≡ pixelOf enable number byte (chip s (now (colours .entry)) (now (overlays .entry))) .refusal ⌝ }
 {
     let p = picked(s, colours, overlays, enable, number, byte);
     match p {
