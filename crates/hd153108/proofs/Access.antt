@@ -130,12 +130,12 @@ pub is-green : (p : ℕ) → p ≡ 1 → componentAt p ≡ green
 unfolding componentAt
 is-green p e = rw e
 
-pub is-blue : (p : ℕ) → (p ≡ 0 → ⊥) → (p ≡ 1 → ⊥) → componentAt p ≡ blue
+pub is-blue : (p : ℕ) → (Unit {0} × (p ≡ 0 → ⊥)) × (p ≡ 1 → ⊥) → componentAt p ≡ blue
 unfolding componentAt
-is-blue zero e f = absurd (e refl)
-is-blue (suc zero) e f = absurd (f refl)
-is-blue (suc (suc zero)) e f = refl
-is-blue (suc (suc (suc p))) e f = refl
+is-blue zero h = absurd (h .0 .1 refl)
+is-blue (suc zero) h = absurd (h .1 refl)
+is-blue (suc (suc zero)) h = refl
+is-blue (suc (suc (suc p))) h = refl
 
 -- the address after blue, as the code makes it
 pub steps : (k : Component) (s : State) {n m : ℕ} → n ≡ m → stepped k n s ≡ stepped k m s

@@ -11,7 +11,7 @@ use lib.Seq.{drop-cons}
 use borrow.Author.Tests.{ne-eqb}
 use Rattle.vocabulary.specs.Range.{Bound, fails, Holds}
 use Rattle.vocabulary.specs.Refusal.{lentLength, outOfRange, refusalOf}
-use Rattle.vocabulary.specs.Outcome.{accepting}
+use Rattle.vocabulary.specs.Outcome.{Outcome, accepting}
 use Rattle.vocabulary.proofs.Range.{clash, holds-passes, not-fails, passes-holds, holds-parts}
 use Rattle.vocabulary.proofs.Refusal.{refusal-is, refusal-none, standing-clear}
 use Rattle.vocabulary.proofs.Outcome.{refused-as, accepted-does}
@@ -102,6 +102,12 @@ module _ (enable number byte : ℕ) (c : Chip) where
 module _ {enable number byte : ℕ} {c : Chip} {p q : Pick} (known : Picked enable number byte c p) (e : p ≡ q) where
   pub means-as : (none : List ℕ) → meaning none c q ≡ pixelOr none enable number byte c
   means-as none = rw e at (known .means none)
+
+  pub refusal-as : meaning [] c q .refusal ≡ pixelOr [] enable number byte c .refusal
+  refusal-as = ap (λ (o : Outcome (List ℕ)). o .refusal) (means-as [])
+
+  pub part-as : meaning [] c q .left ≡ pixelOr [] enable number byte c .left
+  part-as = ap (λ (o : Outcome (List ℕ)). o .left) (means-as [])
 
   pub inside-as : Inside c q
   inside-as = rw e at (known .inside)

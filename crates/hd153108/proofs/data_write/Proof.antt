@@ -30,8 +30,9 @@ same-length c = search needs
 
 returns-3 : tie.Need-returns-3
 unfolding stepped latched stored
-returns-3 c = rw (is-blue _ (c .before .before .before .before .before .match .rest .0 .1) (c .before .before .before
-    .before .before .match .rest .1)) (c .port3 .ensures, c .before .before .before .put-colour .ensures)
+returns-3 c =
+    rw (is-blue _ (c .before .before .before .before .before .match .rest))
+    (c .port3 .ensures, c .before .before .before .put-colour .ensures)
 
 pub data-write-spec : {M : Type 1} → statement M
 data-write-spec =

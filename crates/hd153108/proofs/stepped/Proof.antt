@@ -23,7 +23,7 @@ returns-2 c = rw (is-green _ (c .before .match .keys2)) (c .port2 .ensures)
 
 returns-3 : tie.Need-returns-3
 unfolding stepped
-returns-3 c = rw (is-blue _ (c .before .match .rest .0 .1) (c .before .match .rest .1)) (c .port3 .ensures)
+returns-3 c = rw (is-blue _ (c .before .match .rest)) (c .port3 .ensures)
 
 pub stepped-spec : {M : Type 1} → statement M
 stepped-spec =

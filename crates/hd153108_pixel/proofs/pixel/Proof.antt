@@ -1,9 +1,5 @@
-use mathlib.Core.Path.{ap}
-use mathlib.Core.List.{List, []}
-use Prim.Native.Nat.{ℕ}
 use native.Mathlib.Omega.{arith}
-use Rattle.vocabulary.specs.Outcome.{Outcome}
-use Rattle.hd153108_pixel.proofs.Rule.{means-as, inside-as, three}
+use Rattle.hd153108_pixel.proofs.Rule.{part-as, inside-as, three}
 use borrow.Author.Needs.{needs}
 use Rattle.hd153108_pixel.proofs.pixel.Statement.{statement}
 use Rattle.hd153108_pixel.proofs.pixel.Tie as tie
@@ -61,20 +57,14 @@ part-result-end-3 c = search needs
 
 returns : tie.Need-returns
 returns c =
-    simp three
-    (ap (λ (o : Outcome (List ℕ)). o .left)
-    (means-as (c .before .before .before .before .picked .ensures) (c .before .before .p .given .1) []))
+    simp three (part-as (c .before .before .before .before .picked .ensures) (c .before .before .p .given .1))
 
 returns-2 : tie.Need-returns-2
 returns-2 c =
-    simp three
-    (ap (λ (o : Outcome (List ℕ)). o .left)
-    (means-as (c .before .before .before .before .picked .ensures) (c .before .before .p2 .given .1) []))
+    simp three (part-as (c .before .before .before .before .picked .ensures) (c .before .before .p2 .given .1))
 
 returns-3 : tie.Need-returns-3
-returns-3 c =
-    ap (λ (o : Outcome (List ℕ)). o .left)
-    (means-as (c .before .before .before .picked .ensures) (c .before .enum-told .given .1) [])
+returns-3 c = part-as (c .before .before .before .picked .ensures) (c .before .enum-told .given .1)
 
 pub pixel-spec : {M : Type 1} → statement M
 pixel-spec =

@@ -24,12 +24,14 @@ enum-known-p-3 : tie.Need-enum-known-p-3
 enum-known-p-3 c = search needs
 
 returns : tie.Need-returns
-returns c = c .shown-at .ensures ∙ means-as (c .before .before .before .before .picked .ensures) (c .before .before .p
-    .given .1) _
+returns c =
+    c .shown-at .ensures ∙
+    means-as (c .before .before .before .before .picked .ensures) (c .before .before .p .given .1) _
 
 returns-2 : tie.Need-returns-2
-returns-2 c = c .shown-at2 .ensures ∙ means-as (c .before .before .before .before .picked .ensures) (c .before .before
-    .p2 .given .1) _
+returns-2 c =
+    c .shown-at2 .ensures ∙
+    means-as (c .before .before .before .before .picked .ensures) (c .before .before .p2 .given .1) _
 
 returns-3 : tie.Need-returns-3
 returns-3 c = means-as (c .before .before .before .picked .ensures) (c .before .p3 .given .1) (0 ∷ 0 ∷ 0 ∷ [])

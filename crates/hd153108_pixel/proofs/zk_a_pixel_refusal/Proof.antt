@@ -1,8 +1,4 @@
-use mathlib.Core.Path.{ap}
-use mathlib.Core.List.{List, []}
-use Prim.Native.Nat.{ℕ}
-use Rattle.vocabulary.specs.Outcome.{Outcome}
-use Rattle.hd153108_pixel.proofs.Rule.{means-as}
+use Rattle.hd153108_pixel.proofs.Rule.{refusal-as}
 use borrow.Author.Needs.{needs}
 use Rattle.hd153108_pixel.proofs.zk_a_pixel_refusal.Statement.{statement}
 use Rattle.hd153108_pixel.proofs.zk_a_pixel_refusal.Tie as tie
@@ -20,19 +16,13 @@ enum-known-p : tie.Need-enum-known-p
 enum-known-p c = search needs
 
 returns : tie.Need-returns
-returns c =
-    ap (λ (o : Outcome (List ℕ)). o .refusal) (means-as (c .before .before .picked .ensures) (c .enum-told .given .1)
-    [])
+returns c = refusal-as (c .before .before .picked .ensures) (c .enum-told .given .1)
 
 returns-2 : tie.Need-returns-2
-returns-2 c =
-    ap (λ (o : Outcome (List ℕ)). o .refusal) (means-as (c .before .before .picked .ensures) (c .enum-told2 .given .1)
-    [])
+returns-2 c = refusal-as (c .before .before .picked .ensures) (c .enum-told2 .given .1)
 
 returns-3 : tie.Need-returns-3
-returns-3 c =
-    ap (λ (o : Outcome (List ℕ)). o .refusal) (means-as (c .before .before .before .picked .ensures) (c .before .p
-    .given .1) [])
+returns-3 c = refusal-as (c .before .before .before .picked .ensures) (c .before .p .given .1)
 
 pub zk-a-pixel-refusal-spec : {M : Type 1} → statement M
 zk-a-pixel-refusal-spec =
