@@ -115,7 +115,8 @@ static uint8_t colours_again[1024], overlays_again[1024];
 static void make_tables(void) {
     for (size_t i = 0; i < COLOUR_SIZES; i++)
         for (size_t j = 0; j < OVERLAY_SIZES; j++) {
-            struct tables t = {check_guarded(colour_sizes[i]), check_guarded(overlay_sizes[j]), colour_sizes[i], overlay_sizes[j]};
+            struct tables t = {NULL, NULL, colour_sizes[i], overlay_sizes[j]};
+            t.colours = check_guarded(t.colour_bytes), t.overlays = check_guarded(t.overlay_bytes);
             for (size_t k = 0; k < t.colour_bytes; k++) t.colours[k] = (uint8_t)check_random();
             for (size_t k = 0; k < t.overlay_bytes; k++) t.overlays[k] = (uint8_t)check_random();
             lent[i][j] = t;
@@ -219,7 +220,9 @@ static void one_pixel(zk_a_state s, int enable, int number, int byte, const stru
     met[want.refusal]++;
 }
 
-static void met_often(int refusal) { CHECK(met[refusal] >= 1000, "refusal %d was met %lu times", refusal, met[refusal]); }
+static void met_often(int refusal) {
+    CHECK(met[refusal] >= 1000, "refusal %d was met %lu times", refusal, met[refusal]);
+}
 
 /* ---- tests */
 
@@ -313,7 +316,8 @@ static void every_pixel(void) {
                     one_pixel(s, enable, number, (int)check_below(256), &lent[0][0]);
                 }
     for (int byte = 0; byte < 256; byte++)
-        for (int i = 0; i < 40; i++) one_pixel(good_state(), (int)check_below(2), (int)check_below(4), byte, &lent[0][0]);
+        for (int i = 0; i < 40; i++)
+            one_pixel(good_state(), (int)check_below(2), (int)check_below(4), byte, &lent[0][0]);
     met_often(0), met_often(9);
 }
 
