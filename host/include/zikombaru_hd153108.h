@@ -2,8 +2,8 @@
  *
  * The caller owns the state and both tables. A state goes in by value, and the state after the call comes back in the
  * answer. The tables are lent for the call: the colours are 768 bytes and the overlays 12, three bytes an entry, red
- * first; any length may be lent, and another is ZK_LENT_LENGTH. A refused call changes no lent byte and hands the state
- * back as it was given. A zeroed state is a good one: it is what a reset leaves.
+ * first; any length may be lent, and another is ZK_LENT_LENGTH. A refused call changes no lent byte and hands the
+ * state back as it was given. A zeroed state is a good one: it is what a reset leaves.
  *
  * Refusals, tried in this order: ZK_LENT_LENGTH; ZK_OUT_OF_RANGE, a state or argument outside its range; ZK_NO_ACCESS,
  * a select over 7, or the reserved 2. */

@@ -1,4 +1,5 @@
 pub mod Access
+pub mod Keep
 pub mod Data
 pub mod Masks
 pub mod Blink
