@@ -2,7 +2,6 @@
  * clock and mask, states in and out of range, tables of wrong lengths. Every field and every lent byte is compared. */
 #include "check.h"
 #include "zikombaru.h"
-#include "zikombaru_hd153108.h"
 
 /* ---- the chip again */
 

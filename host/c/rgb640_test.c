@@ -1,7 +1,7 @@
 /* Chip C's calls against plain C written from source document 001 (9.1, 9.3, 9.4.1, 10.15, Tables 23 to 26) and
  * document 01, "Chip C". Every field of every answer and every number of the table is compared after each call. */
 #include "check.h"
-#include "zikombaru_rgb640.h"
+#include "zikombaru.h"
 
 enum { NUMBERS = 3072, SLACK = 4 };
 enum { WRITE_SPACE = 0x4000, READ_SPACE = 0x8000, ENTRIES = 0x400, UPDATE_CONTROL = 0x000E };

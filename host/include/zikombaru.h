@@ -9,6 +9,8 @@
  *    way than by a refusal, and always comes back. The lengths must be true: that much memory must be there.
  *  - Refusals are the numbers of zk_refusal_number, 0 for none. A refused call changes no lent byte, hands a state back
  *    as it was given, and answers 0 for every value and count; a malformed sheet's refusal also tells the line.
+ *  - States are plain structs that the caller owns. They go in by value, and the state after the call comes back in the
+ *    answer. The chips' calls are in zikombaru_hd153108.h (zk_a_) and zikombaru_rgb640.h (zk_c_), which this file brings.
  *  - Answers. A call that has no state answers one number of 64 bits: zk_refusal, zk_value, zk_count, zk_line read it.
  */
 #ifndef ZIKOMBARU_H
@@ -50,5 +52,8 @@ uint64_t zk_expand6(uint32_t component);
 #ifdef __cplusplus
 }
 #endif
+
+#include "zikombaru_hd153108.h"
+#include "zikombaru_rgb640.h"
 
 #endif

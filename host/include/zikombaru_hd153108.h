@@ -1,4 +1,5 @@
-/* zikombaru_hd153108.h: chip A, the HD153108, 256 colours and 4 overlays. From C99 or C++.
+/* zikombaru_hd153108.h: chip A, the HD153108, 256 colours and 4 overlays. The conventions of zikombaru.h
+ * hold.
  *
  * The caller owns the state and both tables. A state goes in by value, and the state after the call comes back in the
  * answer. The tables are lent for the call: the colours are 768 bytes and the overlays 12, three bytes an entry, red

@@ -8,7 +8,8 @@
 #ifndef ZIKOMBARU_RGB640_H
 #define ZIKOMBARU_RGB640_H
 
-#include "zikombaru.h"
+#include <stddef.h>
+#include <stdint.h>
 
 #ifdef __cplusplus
 extern "C" {
