@@ -287,7 +287,7 @@ pub extern "C" fn zk_a_read(s: State, select: u8, colours: &[u8], overlays: &[u8
         5 => accepted(s.blinkmask, s),
         6 => accepted(s.control, s),
         7 => accepted(k.timing, s),
-        _ => refused(3, s),
+        _ => refused(3, s), // nothing moves
     }
 }
 
