@@ -1,12 +1,13 @@
 -- The MS622424, 8,192 colours behind a write queue: source document 004, in its order, and document 01, "Chip B".
 -- 004's words are "FIFO" for the queue and "RGB counter" for the counter. "ruling" marks what 004 leaves open.
 use Prim.Native.Nat.{ℕ, zero, suc, _+_, _-_, _*_, _/_, _%_, _^_, min, max}
+use mathlib.Core.Path.{_≡_}
 use mathlib.Core.Bool.{Bool, true, false, not, _&&_}
 use mathlib.Core.List.{List, [], _∷_, _++_, map}
 use lib.Dec.{ltb, leb, eqb}
 use lib.ListN.{length, getD, take, drop, set, replicate}
 use Rattle.vocabulary.specs.Choice.{pick}
-use Rattle.vocabulary.specs.Range.{Bound, below, equal, tested, fails}
+use Rattle.vocabulary.specs.Range.{Bound, below, equal, tested, fails, Holds}
 use Rattle.vocabulary.specs.Refusal.{Row, _when_, refusalOf, lentLength, outOfRange, noAccess, readMode, stillWaiting}
 use Rattle.vocabulary.specs.Outcome.{Outcome, accepting, answered}
 use Rattle.ms622424.specs.declared.State.{State}
@@ -83,9 +84,12 @@ packed e = e .red + 256 * e .green + 65536 * e .blue + 16777216 * e .address
 abbrev pub unpacked : ℕ → Entry
 unpacked n = record { address = n / 16777216; red = n % 256; green = n / 256 % 256; blue = n / 65536 % 256 }
 
+abbrev pub held : List ℕ → List Entry
+held queue = map unpacked queue
+
 -- THE WAITING COLOURS, oldest first. How the queue keeps them is behind this name (proofs/Queue.antt has its laws).
 unfoldable pub waitingColours : Chip → List Entry
-waitingColours c = map unpacked (take (c .state .waiting) (c .queue))
+waitingColours c = held (take (c .state .waiting) (c .queue))
 
 -- ======== Ranges: what refusals 1 and 9 ask
 
@@ -131,6 +135,10 @@ shortQueue c = fails (equal (length (c .queue)) places ∷ [])
 
 abbrev pub shortTable : Chip → Bool
 shortTable c = fails (equal (length (c .queue)) places ∷ equal (length (c .map)) (3 * entries) ∷ [])
+
+-- what is known past both refusals, as facts
+abbrev pub Sound : Chip → Type 0
+Sound c = (length (c .queue) ≡ places) × (length (c .map) ≡ 3 * entries) × Holds (ranges c)
 
 -- ======== MPU Access Modes: CONFIGSEL<2:0>
 
@@ -217,14 +225,16 @@ pub record Moves : Type 0 where
   pub count : ℕ
   pub after : Chip
 
+abbrev pub made : ℕ → Chip → Moves
+made count after = record { count = count; after = after }
+
 -- one slot more moves the oldest entry, if one waits
 unfoldable pub oneSlot : Moves → Moves
 oneSlot m =
-    pick (eqb (m .after .state .waiting) 0) m
-    (record { count = m .count + 1; after = moveOldest (m .after) })
+    pick (eqb (m .after .state .waiting) 0) m (made (m .count + 1) (moveOldest (m .after)))
 
 unfoldable pub moves : ℕ → Chip → Moves
-moves zero c = record { count = 0; after = c }
+moves zero c = made 0 c
 moves (suc slots) c = oneSlot (moves slots c)
 
 -- "transfer 4 locations from the FIFO to the color map in order to make room for the incoming data"
@@ -451,6 +461,13 @@ reset c =
     answered (refusalOf (resetRefusals c)) c (accepting 0 0 (chip (fresh (c .state)) (replicate places 0) (c .map)))
 
 -- ======== What the answers of the calls mean
+
+-- an answer that refuses, and one that accepts
+abbrev pub refuse : ℕ → State → Answer
+refuse n s = record { refusal = n; value = 0; count = 0; state = s }
+
+abbrev pub accept : ℕ → ℕ → State → Answer
+accept value count s = record { refusal = 0; value = value; count = count; state = s }
 
 abbrev pub outcome : Answer → List ℕ → List ℕ → Outcome Chip
 outcome a queue map = record {
