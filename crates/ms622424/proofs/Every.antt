@@ -8,16 +8,16 @@ use native.Mathlib.Omega.{arith}
 use borrow.Author.Tests.{ltb-true, lt-ltb, eqb-true, eq-eqb}
 use lib.Bits.{bitOr, bitAnd, or-lt, or-add-and, and-le-l, and-le-r}
 use lib.Dec.{ltb, eqb}
-use lib.ListN.{length, getD, take, drop, replicate}
+use lib.ListN.{length, getD, take, drop, replicate, length-drop}
 use lib.Pow.{pow-pos}
-use lib.Seq.{take-suc}
+use lib.Seq.{take-suc, getD-drop}
 use Rattle.vocabulary.proofs.Range.{agree, clash}
 use Rattle.ms622424.specs.Ms622424.{every, held, inMap, isZero}
 
 -- both tests of a pair, and a pair of both
-pub both : {b c : Bool} → (b && c) ≡ true → (b ≡ true) × (c ≡ true)
-both {true} e = (refl, e)
-both {false} e = clash (sym e)
+pub both : (b c : Bool) → (b && c) ≡ true → (b ≡ true) × (c ≡ true)
+both true c e = (refl, e)
+both false c e = clash (sym e)
 
 pub pair : {b c : Bool} → b ≡ true → c ≡ true → (b && c) ≡ true
 pair e f = rw e f
@@ -44,8 +44,8 @@ module _ {A : Type 0} (p : A → Bool) where
   pub every-at : (xs : List A) (d : A) → every p xs ≡ true → (i : ℕ) → i < length xs → p (getD xs i d) ≡ true
   unfolding every
   every-at [] d e i h = absurd (let z : ⊥ = omega arith in z)
-  every-at (x ∷ xs) d e zero h = both e .0
-  every-at (x ∷ xs) d e (suc i) h = every-at xs d (both e .1) i (omega arith)
+  every-at (x ∷ xs) d e zero h = both (p x) (every p xs) e .0
+  every-at (x ∷ xs) d e (suc i) h = every-at xs d (both (p x) (every p xs) e .1) i (omega arith)
 
   -- two tests that agree, element by element
   pub every-same : (q : A → Bool) → ((x : A) → p x ≡ q x) → (xs : List A) → every p xs ≡ every q xs
@@ -60,15 +60,21 @@ or-below k a b =
     let left = and-le-l a b in
     let right = and-le-r a b in
     agree _ _
-    (λ e. let h = ltb-true _ _ e in pair (lt-ltb a (2 ^ k) (omega arith)) (lt-ltb b (2 ^ k) (omega arith)))
-    (λ e. lt-ltb _ _ (or-lt k a b (ltb-true _ _ (both e .0)) (ltb-true _ _ (both e .1))))
+    (λ e. let h = ltb-true (bitOr a b) (2 ^ k) e in pair (lt-ltb a (2 ^ k) (omega arith)) (lt-ltb b (2 ^ k) (omega arith)))
+    (λ e.
+    let t = both (ltb a (2 ^ k)) (ltb b (2 ^ k)) e in
+    lt-ltb _ _ (or-lt k a b (ltb-true a (2 ^ k) (t .0)) (ltb-true b (2 ^ k) (t .1))))
 
 -- one element more
-pub gather-next : (k bits : ℕ) (l : List ℕ) (j : ℕ) → j < length l
-    → ltb bits (2 ^ k) ≡ every (λ (n : ℕ). ltb n (2 ^ k)) (take j l)
-    → ltb (bitOr bits (getD l j 0)) (2 ^ k) ≡ every (λ (n : ℕ). ltb n (2 ^ k)) (take (j + 1) l)
-gather-next k bits l j h e =
-    rw (add-one, take-suc l j 0, every-append, every-one, ← e) (or-below k bits (getD l j 0))
+pub gather-next : (k bits from i : ℕ) (l : List ℕ) → from ≤ i → i < length l
+    → ltb bits (2 ^ k) ≡ every (λ (n : ℕ). ltb n (2 ^ k)) (take (i - from) (drop from l))
+    → ltb (bitOr bits (getD l i 0)) (2 ^ k) ≡ every (λ (n : ℕ). ltb n (2 ^ k)) (take (i + 1 - from) (drop from l))
+gather-next k bits from i l g h e =
+    let d = drop from l in
+    let next : i + 1 - from ≡ suc (i - from) = omega arith in
+    let inside : i - from < length d = simp length-drop (omega arith) in
+    let same : getD d (i - from) 0 ≡ getD l i 0 = getD-drop from l (i - from) 0 ∙ ap (λ (n : ℕ). getD l n 0) (omega arith) in
+    rw (next, take-suc d (i - from) 0 inside, every-append, every-one, ← e, same) (or-below k bits (getD l i 0))
 
 pub gather-none : (k : ℕ) → ltb 0 (2 ^ k) ≡ every (λ (n : ℕ). ltb n (2 ^ k)) []
 unfolding every
@@ -81,8 +87,8 @@ held-in-map [] = refl
 held-in-map (n ∷ l) =
     let e : ltb (n / 16777216) 8192 ≡ ltb n (2 ^ 37) =
         agree _ _
-        (λ h. let g = ltb-true _ _ h in lt-ltb n (2 ^ 37) (omega arith))
-        (λ h. let g = ltb-true _ _ h in lt-ltb _ _ (omega arith)) in
+        (λ h. let g = ltb-true (n / 16777216) 8192 h in lt-ltb n (2 ^ 37) (omega arith))
+        (λ h. let g = ltb-true n (2 ^ 37) h in lt-ltb (n / 16777216) 8192 (omega arith)) in
     let f = held-in-map l in
     cc
 
@@ -90,11 +96,15 @@ held-in-map (n ∷ l) =
 pub zero-below : (n : ℕ) → isZero n ≡ ltb n (2 ^ 0)
 zero-below n =
     agree _ _
-    (λ h. let g = eqb-true _ _ h in lt-ltb n 1 (omega arith))
+    (λ h. let g = eqb-true n 0 h in lt-ltb n 1 (omega arith))
     (λ h. let g = ltb-true n 1 h in eq-eqb n 0 (omega arith))
 
 -- a list of zeros
 pub zeros : (l : List ℕ) → every isZero l ≡ true → l ≡ replicate (length l) 0
 unfolding every
 zeros [] e = refl
-zeros (n ∷ l) e = let f = eqb-true _ _ (both e .0) in let g = zeros l (both e .1) in cc
+zeros (n ∷ l) e =
+    let t = both (eqb n 0) (every isZero l) e in
+    let f = eqb-true n 0 (t .0) in
+    let g = zeros l (t .1) in
+    rw f (ap (λ (k : List ℕ). 0 ∷ k) g)

@@ -1,1 +1,4 @@
 pub mod Every
+pub mod Places
+pub mod Waiting
+pub mod Access

@@ -87,7 +87,7 @@ unpacked n = record { address = n / 16777216; red = n % 256; green = n / 256 % 2
 abbrev pub held : List ℕ → List Entry
 held queue = map unpacked queue
 
--- THE WAITING COLOURS, oldest first. How the queue keeps them is behind this name (proofs/Queue.antt has its laws).
+-- THE WAITING COLOURS, oldest first. How the queue keeps them is behind this name (proofs/Waiting.antt has its laws).
 unfoldable pub waitingColours : Chip → List Entry
 waitingColours c = held (take (c .state .waiting) (c .queue))
 

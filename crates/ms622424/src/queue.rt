@@ -53,7 +53,7 @@ fn move_down(queue: &mut [u64], waiting: usize, gone: usize)
 // The places from `from` to before `to` are zero.
 pub fn clear(queue: &mut [u64], from: usize, to: usize)
     requires { ⌜ (from ≤ to) × (to ≤ length (now queue)) ⌝ }
-    ensures { λ _. ⌜ now (queue .exit) ≡ take from (now (queue .entry)) ++ (replicate (to - from) 0 ++ drop to (now (queue .entry))) ⌝ }
+    ensures { λ _. ⌜ now (queue .exit) ≡ take from (now (queue .entry)) ++ replicate (to - from) 0 ++ drop to (now (queue .entry)) ⌝ }
 {
     let mut i = from;
     while i < to {
@@ -94,7 +94,7 @@ fn entry(s: State, blue: u8) -> u64
 
 // Red and green go to the buffer; blue completes, and its entry goes to the queue's end.
 pub fn latch(s: State, byte: u8, queue: &mut [u64]) -> State
-    requires { ⌜ (s .waiting < length (now queue)) × (s .address < 8192) ⌝ }
+    requires { ⌜ (length (now queue) ≡ 64) × (s .waiting < 64) × (s .address < 8192) ⌝ }
     ensures { λ r. ⌜ ((m : List ℕ) → chip r (now (queue .exit)) m ≡ latched (selected (s .counter)) byte (chip s (now (queue .entry)) m)) ⌝ }
 {
     let counter = s.counter;

@@ -1,49 +1,57 @@
+use mathlib.Core.Path.{_≡_, refl, sym, ap, _∙_}
+use mathlib.Core.List.{List}
+use Prim.Native.Nat.{ℕ, _+_}
+use lib.ListN.{set}
+use Rattle.ms622424.specs.Ms622424.{Colour, blue, chip, queued, selected, latched, stepped, complete}
+use Rattle.ms622424.proofs.Access.{is-red, is-green, is-blue}
 use borrow.Author.Needs.{needs}
 use Rattle.ms622424.proofs.queue.latch.Statement.{statement}
 use Rattle.ms622424.proofs.queue.latch.Tie as tie
-use Rattle.ms622424.proofs.queue.latch.Reads as reads
-use Rattle.ms622424.proofs.queue.latch.Lts as lts
-use Rattle.ms622424.proofs.queue.entry.Reads as entry-reads
 
--- src/queue.rt:112:24
 cast-last : tie.Need-cast-last
 cast-last c = search needs
 
--- src/queue.rt:113:27
 entry-requires : tie.Need-entry-requires
 entry-requires c κs = search needs
 
--- src/queue.rt:113:13
 mul-queue : tie.Need-mul-queue
 mul-queue c = search needs
 
--- src/queue.rt:113:13
 slice-write-queue : tie.Need-slice-write-queue
 slice-write-queue c = search needs
 
--- src/queue.rt:114:25
 add-n : tie.Need-add-n
-add-n c = ?
+add-n c = search needs
 
--- src/queue.rt:116:26
 add-n-2 : tie.Need-add-n-2
 add-n-2 c = search needs
 
--- src/queue.rt:96:1
+-- what a counter's arm leaves is what its colour says
+arm : (c : tie.Start) {k : Colour} → selected (c .args .s .counter) ≡ k → (m : List ℕ)
+    → latched k (c .args .byte) (chip (c .args .s) (c .args .queue .now) m)
+    ≡ latched (selected (c .args .s .counter)) (c .args .byte) (chip (c .args .s) (c .args .queue .now) m)
+arm c e m = rw e refl
+
 returns : tie.Need-returns
-returns c = ?
+unfolding latched stepped
+returns c m = arm (c .before .before) (is-red _ (c .match .keys1)) m
 
--- src/queue.rt:96:1
 returns-2 : tie.Need-returns-2
-returns-2 c = ?
+unfolding latched stepped
+returns-2 c m = arm (c .before .before) (is-green _ (c .match .keys2)) m
 
--- src/queue.rt:96:1
 same-length : tie.Need-same-length
 same-length c = search needs
 
--- src/queue.rt:96:1
 returns-3 : tie.Need-returns-3
-returns-3 c = ?
+unfolding latched stepped complete
+returns-3 c m =
+    let start = c .before .before .before .before .before .before in
+    let s = start .args .s in
+    let rest = c .before .before .before .before .match .rest in
+    ap (λ (n : ℕ). chip (stepped blue (queued s (s .waiting + 1))) (set (start .args .queue .now) (s .waiting) n) m)
+    (c .before .before .entry .ensures)
+    ∙ arm start (is-blue _ (rest .0 .1) (rest .1)) m
 
 pub latch-spec : {M : Type 1} → statement M
 latch-spec =

@@ -1,61 +1,68 @@
+use Prim.Native.Nat.{ℕ, _+_, _-_, _≤_}
+use mathlib.Core.Path.{_≡_, refl, sym, ap, _∙_}
+use mathlib.Core.List.{List}
+use native.Mathlib.Omega.{arith}
+use lib.ListN.{length, getD, drop, set, length-set, length-drop}
+use borrow.Author.Needs.{needs}
+use Rattle.ms622424.proofs.Places.{front, move-next}
 use Rattle.ms622424.proofs.queue.move_down.Statement.{statement}
 use Rattle.ms622424.proofs.queue.move_down.Tie as tie
-use Rattle.ms622424.proofs.queue.move_down.Reads as reads
-use Rattle.ms622424.proofs.queue.move_down.Lts as lts
 
 abbrev Inv-loop : tie.InvT-loop
-Inv-loop queue₀ waiting gone left i₀ queue i = ?
+Inv-loop queue₀ waiting gone left i₀ queue i =
+    (i ≤ left) × (length queue ≡ length queue₀) × (queue ≡ front i (drop gone queue₀) queue₀)
 
 abbrev μ-loop : tie.MeasureT-loop
-μ-loop queue₀ waiting gone left i₀ queue i = ?
+μ-loop queue₀ waiting gone left i₀ queue i = left - i
 
--- src/queue.rt:45:16
 sub-left : tie.Need-sub-left Inv-loop μ-loop
-sub-left c = ?
+sub-left c = search needs
 
--- src/queue.rt:47:5
 loop-holds : tie.Need-loop-holds Inv-loop μ-loop
-loop-holds c = ?
+loop-holds c = (search needs, refl, refl)
 
--- src/queue.rt:48:26
 add-queue : tie.Need-add-queue Inv-loop μ-loop
-add-queue c = ?
+add-queue c = omega arith
 
--- src/queue.rt:48:20
 mul-queue : tie.Need-mul-queue Inv-loop μ-loop
-mul-queue c = ?
+mul-queue c = omega arith
 
--- src/queue.rt:48:20
 slice-read-queue : tie.Need-slice-read-queue Inv-loop μ-loop
-slice-read-queue c = ?
+slice-read-queue c = omega arith
 
--- src/queue.rt:48:9
 mul-queue-2 : tie.Need-mul-queue-2 Inv-loop μ-loop
-mul-queue-2 c = ?
+mul-queue-2 c = omega arith
 
--- src/queue.rt:48:9
 slice-write-queue : tie.Need-slice-write-queue Inv-loop μ-loop
-slice-write-queue c = ?
+slice-write-queue c = omega arith
 
--- src/queue.rt:49:9
 add-i : tie.Need-add-i Inv-loop μ-loop
-add-i c = ?
+add-i c = omega arith
 
--- src/queue.rt:47:5
 loop-less : tie.Need-loop-less Inv-loop μ-loop
-loop-less c = ?
+loop-less c = omega arith
 
--- src/queue.rt:47:5
 loop-again : tie.Need-loop-again Inv-loop μ-loop
-loop-again c = ?
+loop-again c =
+    let a = c .before .before .before .args in
+    let q = a .queue .now in
+    let d = drop (a .gone) q in
+    let i = c .before .before .loop .i in
+    let inv = c .before .before .loop .inv in
+    let long = length-drop (a .gone) q in (
+      omega arith,
+      simp length-set (inv .1),
+      rw (inv .2) (move-next q (a .gone) i (omega arith)),
+    )
 
--- src/queue.rt:41:1
 same-length : tie.Need-same-length Inv-loop μ-loop
-same-length c = ?
+same-length c = omega arith
 
--- src/queue.rt:41:1
 returns : tie.Need-returns Inv-loop μ-loop
-returns c = ?
+returns c =
+    let a = c .before .before .args in
+    let e : c .before .loop .i ≡ a .waiting - a .gone = omega arith in
+    rw e at (c .before .loop .inv .2)
 
 pub move-down-spec : {M : Type 1} → statement M
 move-down-spec =

@@ -1,58 +1,68 @@
+use Prim.Native.Nat.{ℕ, _-_, _≤_}
+use mathlib.Core.Path.{_≡_, refl, sym, ap, _∙_}
+use mathlib.Core.List.{List, [], _∷_}
+use native.Mathlib.Omega.{arith}
+use lib.ListN.{length, getD, take}
+use borrow.Author.Needs.{needs}
+use Rattle.ms622424.specs.Ms622424.{unpacked, held, stored, allStored}
+use Rattle.ms622424.proofs.Places.{all-stored-length, stored-next}
 use Rattle.ms622424.proofs.queue.store_oldest.Statement.{statement}
 use Rattle.ms622424.proofs.queue.store_oldest.Tie as tie
-use Rattle.ms622424.proofs.queue.store_oldest.Reads as reads
-use Rattle.ms622424.proofs.queue.store_oldest.Lts as lts
-use Rattle.ms622424.proofs.queue.store.Reads as store-reads
 
 abbrev Inv-loop : tie.InvT-loop
-Inv-loop waiting slots queue map₀ moved₀ map moved = ?
+Inv-loop waiting slots queue map₀ moved₀ map moved =
+    (moved ≤ waiting) × (moved ≤ slots) × (map ≡ allStored (held (take moved queue)) map₀)
 
 abbrev μ-loop : tie.MeasureT-loop
-μ-loop waiting slots queue map₀ moved₀ map moved = ?
+μ-loop waiting slots queue map₀ moved₀ map moved = slots - moved
 
--- src/queue.rt:30:5
+kept : (c : tie.At-loop Inv-loop μ-loop) → length (c .loop .map) ≡ length (c .before .before .before .args .map .now)
+kept c = ap length (c .loop .inv .2) ∙ all-stored-length _ _
+
 loop-holds : tie.Need-loop-holds Inv-loop μ-loop
-loop-holds c = ?
+unfolding allStored
+loop-holds c = search needs
 
--- src/queue.rt:34:20
 mul-store : tie.Need-mul-store Inv-loop μ-loop
-mul-store c = ?
+mul-store c = omega arith
 
--- src/queue.rt:34:20
 shared-slice-read-store : tie.Need-shared-slice-read-store Inv-loop μ-loop
-shared-slice-read-store c = ?
+shared-slice-read-store c = omega arith
 
--- src/queue.rt:34:9
 store-requires : tie.Need-store-requires Inv-loop μ-loop
-store-requires c κs = ?
+store-requires c κs =
+    let start = c .before .before .before .before .before .before .before in
+    let at = c .before .before .before .before in
+    (kept at ∙ start .pre .0 .0, start .pre .1 (at .loop .moved) (omega arith))
 
--- src/queue.rt:35:9
 add-moved : tie.Need-add-moved Inv-loop μ-loop
-add-moved c = ?
+add-moved c = omega arith
 
--- src/queue.rt:30:5
 loop-less : tie.Need-loop-less Inv-loop μ-loop
-loop-less c = ?
+loop-less c = omega arith
 
--- src/queue.rt:30:5
 loop-again : tie.Need-loop-again Inv-loop μ-loop
-loop-again c = ?
+loop-again c =
+    let at = c .before .before .before .before .before .before .before in
+    let a = at .before .before .before .args in (
+      omega arith,
+      omega arith,
+      c .before .before .store .ensures
+      ∙ (ap (stored (unpacked (getD (a .queue .now) (at .loop .moved) 0))) (at .loop .inv .2)
+      ∙ stored-next (a .queue .now) (at .loop .moved) (a .map .now) (omega arith)),
+    )
 
--- src/queue.rt:23:1
 same-length : tie.Need-same-length Inv-loop μ-loop
-same-length c = ?
+same-length c = kept (c .before)
 
--- src/queue.rt:23:1
 returns : tie.Need-returns Inv-loop μ-loop
-returns c = ?
+returns c = (omega arith, c .before .loop .inv .2)
 
--- src/queue.rt:23:1
 same-length-2 : tie.Need-same-length-2 Inv-loop μ-loop
-same-length-2 c = ?
+same-length-2 c = kept (c .before .before)
 
--- src/queue.rt:23:1
 returns-2 : tie.Need-returns-2 Inv-loop μ-loop
-returns-2 c = ?
+returns-2 c = (omega arith, c .before .before .loop .inv .2)
 
 pub store-oldest-spec : {M : Type 1} → statement M
 store-oldest-spec =

@@ -1,41 +1,48 @@
+use Prim.Native.Nat.{ℕ, _-_, _^_, _≤_}
+use mathlib.Core.Path.{_≡_, sym, ap, _∙_}
+use native.Mathlib.Omega.{arith}
+use lib.Dec.{ltb}
+use lib.ListN.{length, getD, take, drop, length-drop}
+use lib.Seq.{getD-drop}
+use borrow.Author.Needs.{needs}
+use Rattle.ms622424.specs.Ms622424.{every}
+use Rattle.ms622424.proofs.Every.{gather-none, gather-next}
 use Rattle.ms622424.proofs.range.gathered.Statement.{statement}
 use Rattle.ms622424.proofs.range.gathered.Tie as tie
-use Rattle.ms622424.proofs.range.gathered.Reads as reads
-use Rattle.ms622424.proofs.range.gathered.Lts as lts
 
 abbrev Inv-loop : tie.InvT-loop
-Inv-loop queue from to bits₀ i₀ bits i = ?
+Inv-loop queue from to bits₀ i₀ bits i =
+    (from ≤ i) × (i ≤ to)
+    × ((k : ℕ) → ltb bits (2 ^ k) ≡ every (λ (n : ℕ). ltb n (2 ^ k)) (take (i - from) (drop from queue)))
 
 abbrev μ-loop : tie.MeasureT-loop
-μ-loop queue from to bits₀ i₀ bits i = ?
+μ-loop queue from to bits₀ i₀ bits i = to - i
 
--- src/range.rt:22:5
 loop-holds : tie.Need-loop-holds Inv-loop μ-loop
-loop-holds c = ?
+loop-holds c =
+    let e : c .args .from - c .args .from ≡ 0 = omega arith in
+    (search needs, search needs, λ k. rw e (gather-none k))
 
--- src/range.rt:23:23
 mul-bits : tie.Need-mul-bits Inv-loop μ-loop
-mul-bits c = ?
+mul-bits c = search needs
 
--- src/range.rt:23:23
 shared-slice-read-bits : tie.Need-shared-slice-read-bits Inv-loop μ-loop
-shared-slice-read-bits c = ?
+shared-slice-read-bits c = search needs
 
--- src/range.rt:24:9
 add-i : tie.Need-add-i Inv-loop μ-loop
-add-i c = ?
+add-i c = search needs
 
--- src/range.rt:22:5
 loop-less : tie.Need-loop-less Inv-loop μ-loop
-loop-less c = ?
+loop-less c = search needs
 
--- src/range.rt:22:5
 loop-again : tie.Need-loop-again Inv-loop μ-loop
-loop-again c = ?
+loop-again c =
+    let a = c .before .before .before .args in
+    let l = c .before .before .loop in
+    (search needs, search needs, λ k. gather-next k (l .bits) (a .from) (l .i) (a .queue .now) (omega arith) (omega arith) (l .inv .2 k))
 
--- src/range.rt:16:1
 returns : tie.Need-returns Inv-loop μ-loop
-returns c = ?
+returns c = let e : c .before .loop .i ≡ c .before .before .args .to = omega arith in λ k. rw e at (c .before .loop .inv .2 k)
 
 pub gathered-spec : {M : Type 1} → statement M
 gathered-spec =
