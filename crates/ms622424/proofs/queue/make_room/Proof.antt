@@ -1,27 +1,19 @@
 use borrow.Author.Needs.{needs}
 use Rattle.ms622424.proofs.queue.make_room.Statement.{statement}
 use Rattle.ms622424.proofs.queue.make_room.Tie as tie
-use Rattle.ms622424.proofs.queue.make_room.Reads as reads
-use Rattle.ms622424.proofs.queue.make_room.Lts as lts
-use Rattle.ms622424.proofs.queue.transfer.Reads as transfer-reads
 
--- src/queue.rt:83:9
 transfer-requires : tie.Need-transfer-requires
 transfer-requires c κs = search needs
 
--- src/queue.rt:83:9
 same-length : tie.Need-same-length
 same-length c = search needs
 
--- src/queue.rt:83:9
 same-length-2 : tie.Need-same-length-2
 same-length-2 c = search needs
 
--- src/queue.rt:83:9
 returns : tie.Need-returns
 returns c = ?
 
--- src/queue.rt:78:1
 returns-2 : tie.Need-returns-2
 returns-2 c = ?
 

@@ -1,25 +1,26 @@
+use mathlib.Core.Path.{sym, _∙_}
+use borrow.Author.Tests.{not-true, not-false}
+use Rattle.vocabulary.proofs.Range.{not-fails, holds-passes, misses-fails, meets-passes}
+use Rattle.ms622424.proofs.Standing.{stands-short, stands-outside, stands}
 use borrow.Author.Needs.{needs}
 use Rattle.ms622424.proofs.range.standing_queue.Statement.{statement}
 use Rattle.ms622424.proofs.range.standing_queue.Tie as tie
-use Rattle.ms622424.proofs.range.standing_queue.Reads as reads
-use Rattle.ms622424.proofs.range.standing_queue.Lts as lts
-use Rattle.ms622424.proofs.range.in_range.Reads as in-range-reads
 
--- src/range.rt:74:9
 returns : tie.Need-returns
-returns c = ?
+returns c m = stands-short _ _ (not-fails _ (λ g. c .if1 .taken (g .0)))
 
--- src/range.rt:76:9
 in-range-requires : tie.Need-in-range-requires
 in-range-requires c κs = search needs
 
--- src/range.rt:77:9
 returns-2 : tie.Need-returns-2
-returns-2 c = ?
+returns-2 c m =
+    stands-outside _ _ (holds-passes _ (c .before .before .if1 .left, tt))
+    (misses-fails _ (sym (c .before .in-range .ensures m) ∙ not-true _ (c .if2 .taken)))
 
--- src/range.rt:70:1
 returns-3 : tie.Need-returns-3
-returns-3 c = ?
+returns-3 c m =
+    stands _ _ (holds-passes _ (c .before .before .if1 .left, tt))
+    (meets-passes _ (sym (c .before .in-range .ensures m) ∙ not-false _ (c .if2 .left)))
 
 pub standing-queue-spec : {M : Type 1} → statement M
 standing-queue-spec = tie.close (tie.spec returns in-range-requires returns-2 returns-3)
