@@ -1,5 +1,5 @@
 pub mod Every
 pub mod Places
+pub mod Standing
 pub mod Waiting
 pub mod Access
-pub mod Standing

@@ -13,9 +13,10 @@ use lib.ListN.{replicate-append-replicate}
 use lib.Seq.{take-suc, take-suc-set, take-take, drop-append-le, drop-drop, getD-drop, take-append-le, take-nil, drop-nil}
 use Rattle.vocabulary.proofs.Choice.{cases, picks-first, picks-second}
 use Rattle.ms622424.specs.declared.State.{State}
-use Rattle.ms622424.specs.Ms622424.{Chip, chip, queued, Entry, packed, unpacked, held, waitingColours}
+use Rattle.ms622424.specs.Ms622424.{Chip, chip, queued, Entry, packed, unpacked, held, waitingColours, Sound}
 use Rattle.ms622424.specs.Ms622424.{completed, complete, stored, allStored, moveOldest, Moves, made, oneSlot, moves}
-use Rattle.ms622424.proofs.Places.{stored-next}
+use Rattle.ms622424.proofs.Places.{front, zeroed, closed-up, stored-next}
+use Rattle.ms622424.proofs.Standing.{unused-zero}
 
 -- a place holds its entry
 pub unpacked-packed : (a r g b : ℕ) → r < 256 → g < 256 → b < 256
@@ -67,7 +68,7 @@ movesOf k c =
     (allStored (held (take k (c .queue))) (c .map)))
 
 -- equal parts are equal moves
-same-moves : {k n w v : ℕ} {q r m l : List ℕ} (s : State) → k ≡ n → w ≡ v → q ≡ r → m ≡ l
+pub same-moves : {k n w v : ℕ} {q r m l : List ℕ} (s : State) → k ≡ n → w ≡ v → q ≡ r → m ≡ l
     → made k (chip (queued s w) q m) ≡ made n (chip (queued s v) r l)
 same-moves s e f g h = cc
 
@@ -158,3 +159,17 @@ module _ (c : Chip) (long : c .state .waiting ≤ length (c .queue)) where
       ap (λ (m : Moves). m .after .map) (moves-least slots)
       ∙ ap (λ (es : List Entry). allStored es (c .map))
       (ap held (sym (take-take k w (c .queue) (omega arith))) ∙ map-take unpacked k (take w (c .queue)))
+
+-- what the code leaves, the stores, the entries moved down and the places cleared, is what the slots' moves leave
+pub transferred : (slots k : ℕ) (c : Chip) (q r m : List ℕ) → Sound c → k ≡ min slots (c .state .waiting)
+    → q ≡ front (c .state .waiting - k) (drop k (c .queue)) (c .queue)
+    → r ≡ zeroed (c .state .waiting - k) (c .state .waiting) q ++ drop (c .state .waiting) q
+    → m ≡ allStored (held (take k (c .queue))) (c .map)
+    → made k (chip (queued (c .state) (c .state .waiting - k)) r m) ≡ moves slots c
+transferred slots k c q r m h e down cleared put =
+    let w = c .state .waiting in
+    let long : w ≤ length (c .queue) = omega (arith, h) in
+    let unused = length (drop w (c .queue)) in
+    let rest = closed-up (c .queue) w k unused (omega arith) long (unused-zero c h) in
+    same-moves (c .state) refl refl (cleared ∙ rw down rest) put
+    ∙ sym (moves-least c long slots ∙ ap (λ (n : ℕ). movesOf n c) (sym e))

@@ -255,11 +255,11 @@ writable revision = false
 writable initialization = true
 writable none = false
 
--- red and green go to the Color Buffer Register, blue completes; then the counter moves
+-- red and green go to the Color Buffer Register, blue completes
 unfoldable pub latched : Colour → ℕ → Chip → Chip
-latched red byte c = let s = c .state in withState (stepped red (port s (s .address) (s .counter) byte (s .green))) c
-latched green byte c = let s = c .state in withState (stepped green (port s (s .address) (s .counter) (s .red) byte)) c
-latched blue byte c = let d = complete byte c in withState (stepped blue (d .state)) d
+latched red byte c = let s = c .state in withState (port s (s .address) (s .counter) byte (s .green)) c
+latched green byte c = let s = c .state in withState (port s (s .address) (s .counter) (s .red) byte) c
+latched blue byte c = complete byte c
 
 -- what an accepted write does: value 0, and as its count the moves that made room
 unfoldable pub written : Register → ℕ → Chip → Outcome Chip
@@ -272,8 +272,10 @@ written addressHigh byte c =
     accepting 0 0 (withState (port s (byte % 32 * 256 + s .address % 256) 0 (s .red) (s .green)) c)
 -- a full queue makes room first, whatever the counter
 written palette byte c =
+    let k = selected (c .state .counter) in
     let m = roomMade c in
-    accepting 0 (m .count) (latched (selected (c .state .counter)) byte (m .after))
+    let d = latched k byte (m .after) in
+    accepting 0 (m .count) (withState (stepped k (d .state)) d)
 -- command bits 5 to 7 are ignored (ruling)
 written command byte c = let s = c .state in accepting 0 0 (withState (control s (byte % 32) (s .readmode)) c)
 written status byte c = accepting 0 0 c

@@ -65,7 +65,7 @@ pub fn clear(queue: &mut [u64], from: usize, to: usize)
 // The moves of `slots` slots: into the map, and the queue closed up.
 pub fn transfer(s: State, slots: u32, queue: &mut [u64], map: &mut [u8]) -> u8
     requires { ⌜ Sound (chip s (now queue) (now map)) ⌝ }
-    ensures { λ r. ⌜ (r ≤ s .waiting) × (made r (chip (queued s (s .waiting - r)) (now (queue .exit)) (now (map .exit))) ≡ moves slots (chip s (now (queue .entry)) (now (map .entry)))) ⌝ }
+    ensures { λ r. ⌜ (r ≡ min slots (s .waiting)) × (made r (chip (queued s (s .waiting - r)) (now (queue .exit)) (now (map .exit))) ≡ moves slots (chip s (now (queue .entry)) (now (map .entry)))) ⌝ }
 {
     let waiting = s.waiting as usize;
     let moved = store_oldest(waiting, slots as usize, queue, map);
@@ -77,7 +77,7 @@ pub fn transfer(s: State, slots: u32, queue: &mut [u64], map: &mut [u8]) -> u8
 // A full queue makes room for four entries: how many it moved.
 pub fn make_room(s: State, queue: &mut [u64], map: &mut [u8]) -> u8
     requires { ⌜ Sound (chip s (now queue) (now map)) ⌝ }
-    ensures { λ r. ⌜ (r ≤ s .waiting) × (made r (chip (queued s (s .waiting - r)) (now (queue .exit)) (now (map .exit))) ≡ roomMade (chip s (now (queue .entry)) (now (map .entry)))) ⌝ }
+    ensures { λ r. ⌜ (r ≤ s .waiting) × (s .waiting - r < 64) × (made r (chip (queued s (s .waiting - r)) (now (queue .exit)) (now (map .exit))) ≡ roomMade (chip s (now (queue .entry)) (now (map .entry)))) ⌝ }
 {
     if s.waiting == 64 {
         return transfer(s, 4, queue, map);
@@ -94,7 +94,7 @@ fn entry(s: State, blue: u8) -> u64
 
 // Red and green go to the buffer; blue completes, and its entry goes to the queue's end.
 pub fn latch(s: State, byte: u8, queue: &mut [u64]) -> State
-    requires { ⌜ (length (now queue) ≡ 64) × (s .waiting < 64) × (s .address < 8192) ⌝ }
+    requires { ⌜ (length (now queue) ≡ 64) × (s .waiting < 64) ⌝ }
     ensures { λ r. ⌜ ((m : List ℕ) → chip r (now (queue .exit)) m ≡ latched (selected (s .counter)) byte (chip s (now (queue .entry)) m)) ⌝ }
 {
     let counter = s.counter;
@@ -102,19 +102,17 @@ pub fn latch(s: State, byte: u8, queue: &mut [u64]) -> State
     match counter {
         0 => {
             n.red = byte;
-            n.counter = 1;
+            n
         }
         1 => {
             n.green = byte;
-            n.counter = 2;
+            n
         }
         _ => {
             let last = s.waiting as usize;
             queue[last] = entry(s, byte);
             n.waiting = s.waiting + 1;
-            n.counter = 0;
-            n.address = (s.address + 1) % 8192;
+            n
         }
     }
-    n
 }

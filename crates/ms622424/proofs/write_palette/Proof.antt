@@ -1,4 +1,12 @@
+use mathlib.Core.Path.{_≡_, refl, sym, ap, _∙_}
+use Prim.Native.Nat.{_-_}
+use native.Mathlib.Omega.{arith}
 use borrow.Author.Needs.{needs}
+use Rattle.vocabulary.specs.Outcome.{accepting}
+use Rattle.ms622424.specs.declared.Answer.{Answer}
+use Rattle.ms622424.specs.declared.State.{State}
+use Rattle.ms622424.specs.Ms622424.{Chip, chip, queued, outcome, accept}
+use Rattle.ms622424.proofs.Access.{latched-address, palette-written}
 use Rattle.ms622424.proofs.write_palette.Statement.{statement}
 use Rattle.ms622424.proofs.write_palette.Tie as tie
 
@@ -9,7 +17,16 @@ sub-n : tie.Need-sub-n
 sub-n c = search needs
 
 latch-requires : tie.Need-latch-requires
-latch-requires c κs = ?
+latch-requires c κs =
+    let room = c .before .before .before .before .before .before in
+    (room .make-room .kept .1 .0 ∙ room .before .before .before .before .before .pre .0, room .make-room .ensures .1)
+
+step-requires : tie.Need-step-requires
+step-requires c κs =
+    let latch = c .before .before in
+    let room = latch .before .before .before .before .before .before .before in
+    let e = ap (λ (d : Chip). d .state .address) (latch .latch .ensures (room .make-room .last .1 .1 .0)) in
+    omega (arith, e ∙ latched-address _ _ _, room .before .before .before .before .before .pre)
 
 accepted-requires : tie.Need-accepted-requires
 accepted-requires c κs = search needs
@@ -21,7 +38,18 @@ same-length-2 : tie.Need-same-length-2
 same-length-2 c = search needs
 
 returns : tie.Need-returns
-returns c = ?
+returns c =
+    let latch = c .before .before .before .before in
+    let room = latch .before .before .before .before .before .before .before in
+    let a = room .before .before .before .before .before .args in
+    let moved = room .make-room in
+    let map = moved .last .1 .1 .0 in
+    let queue = latch .latch .last .1 .1 .0 in
+    let after = chip (queued (a .s) (a .s .waiting - moved .result)) (moved .last .1 .0) map in
+    ap (λ (r : Answer). outcome r queue map) (c .accepted .ensures)
+    ∙ (ap (λ (s : State). outcome (accept 0 (moved .result) s) queue map) (c .before .step .ensures)
+    ∙ palette-written (moved .result) (a .byte) after (chip (a .s) (a .queue .now) (a .map .now)) (latch .latch .result) queue
+    (moved .ensures .2) (latch .latch .ensures map) refl)
 
 pub write-palette-spec : {M : Type 1} → statement M
 write-palette-spec =
@@ -30,6 +58,7 @@ write-palette-spec =
     make-room-requires
     sub-n
     latch-requires
+    step-requires
     accepted-requires
     same-length
     same-length-2
