@@ -1,6 +1,6 @@
 -- Laws of a call: which colour the counter selects, which refusal is given, and what an accepted call does.
 -- Assumes nothing.
-use Prim.Native.Nat.{ℕ, zero, suc, _<_}
+use Prim.Native.Nat.{ℕ, zero, suc, _<_, _≤_}
 use mathlib.Core.Path.{_≡_, refl, sym, ap, _∙_}
 use mathlib.Core.Bool.{Bool, true, false, not, _&&_}
 use mathlib.Core.List.{List, [], _∷_, _++_}
@@ -19,7 +19,8 @@ use Rattle.ms622424.specs.declared.State.{State}
 use Rattle.ms622424.specs.Ms622424.{Chip, chip, ranges, shortTable, Sound, registerAt, isPalette}
 use Rattle.ms622424.specs.Ms622424.{Colour, red, green, blue, selected, stepped, withState, complete}
 use Rattle.ms622424.specs.Ms622424.{Moves, made, roomMade, latched, palette, written, writable, writeRefusals, write}
-use Rattle.ms622424.specs.Ms622424.{answers, readable, readRefusals, read}
+use Rattle.ms622424.specs.Ms622424.{moves, blankRefusals, blank}
+use Rattle.ms622424.specs.Ms622424.{answers, readable, buffer, bufferByte, bufferStepped, readRefusals, read}
 
 -- ---- the counter's three places
 pub is-red : (counter : ℕ) → counter ≡ 0 → selected counter ≡ red
@@ -181,6 +182,15 @@ module _ (c : Chip) (h : Sound c) where
       (stops (readRefusals 2 c) c _ (lentLength ∷ outOfRange ∷ noAccess ∷ noIndex ∷ readMode ∷ []) stillWaiting _ refl
       (lengths-right c h, (ranges-right c h, (refl, (refl, (ne-eqb _ 0 f, tt))))) (ap not (ne-eqb _ 0 g)))
 
+  -- the buffer at red and at green
+  pub read-buffer : (select : ℕ) (k : Colour) → select ≡ 5 → selected (c .state .counter) ≡ k → readable buffer k ≡ true
+      → accepting (bufferByte k (c .state)) 0 (withState (bufferStepped k (c .state)) c) ≡ read select c
+  unfolding registerAt answers
+  read-buffer select k e f r =
+      let ok : readable buffer (selected (c .state .counter)) ≡ true = rw f r in
+      read-does 5 select e ok refl refl
+      (ap (λ (j : Colour). accepting (bufferByte j (c .state)) 0 (withState (bufferStepped j (c .state)) c)) (sym f))
+
 -- the buffer at blue, and every select over 7
 pub buffer-at-blue : (select counter : ℕ) → select ≡ 5 → selected counter ≡ blue
     → readable (registerAt select) (selected counter) ≡ false
@@ -199,3 +209,18 @@ not-read (suc (suc (suc (suc (suc zero))))) k a b d e f g i j = absurd (g refl)
 not-read (suc (suc (suc (suc (suc (suc zero)))))) k a b d e f g i j = absurd (i refl)
 not-read (suc (suc (suc (suc (suc (suc (suc zero))))))) k a b d e f g i j = absurd (j refl)
 not-read (suc (suc (suc (suc (suc (suc (suc (suc n)))))))) k a b d e f g i j = refl
+
+-- ---- blanking
+module _ (slots : ℕ) (c : Chip) (h : Sound c) where
+  pub blank-too-many : 65536 ≤ slots → refusing 9 0 c ≡ blank slots c
+  unfolding blank
+  blank-too-many l =
+      stops (blankRefusals slots c) c _ (lentLength ∷ []) outOfRange _ refl (lengths-right c h, tt)
+      (not-fails _ (λ g. omega arith))
+
+  pub blank-does : slots < 65536 → (n : ℕ) (after : Chip) → made n after ≡ moves slots c
+      → accepting 0 n after ≡ blank slots c
+  unfolding blank
+  blank-does l n after e =
+      ap (λ (m : Moves). accepting 0 (m .count) (m .after)) e
+      ∙ goes-on (blankRefusals slots c) c _ (lengths-right c h, (holds-passes _ (l, h .2), tt))
