@@ -1,13 +1,14 @@
 -- Laws of a call: which colour the counter selects, which refusal is given, and what an accepted call does.
 -- Assumes nothing.
-use Prim.Native.Nat.{ℕ, zero, suc, _<_, _≤_}
+use Prim.Native.Nat.{ℕ, zero, suc, _-_, _<_, _≤_}
 use mathlib.Core.Path.{_≡_, refl, sym, ap, _∙_}
 use mathlib.Core.Bool.{Bool, true, false, not, _&&_}
-use mathlib.Core.List.{List, [], _∷_, _++_}
+use mathlib.Core.List.{List, [], _∷_, _++_, append-nil}
 use native.Mathlib.Omega.{arith}
 use borrow.Author.Tests.{eq-eqb, ne-eqb}
 use lib.Dec.{eqb}
-use Rattle.vocabulary.specs.Range.{Bound, below, fails}
+use lib.ListN.{length, take, drop, replicate, drop-of-length-le}
+use Rattle.vocabulary.specs.Range.{Bound, below, fails, Holds}
 use Rattle.vocabulary.specs.Refusal.{Refusal, number, order, Row, _when_, due, refusalOf, standing}
 use Rattle.vocabulary.specs.Refusal.{lentLength, outOfRange, noAccess, noIndex, readMode, stillWaiting}
 use Rattle.vocabulary.specs.Refusal.{overFifteen, shortBuffer, malformed}
@@ -20,6 +21,7 @@ use Rattle.ms622424.specs.Ms622424.{Chip, chip, ranges, shortTable, Soun
 use Rattle.ms622424.specs.Ms622424.{Colour, red, green, blue, selected, stepped, withState, complete}
 use Rattle.ms622424.specs.Ms622424.{Moves, made, roomMade, latched, palette, written, writable, writeRefusals, write}
 use Rattle.ms622424.specs.Ms622424.{moves, blankRefusals, blank}
+use Rattle.ms622424.specs.Ms622424.{shortQueue, keptRanges, resetRefusals, fresh, reset}
 use Rattle.ms622424.specs.Ms622424.{answers, readable, buffer, bufferByte, bufferStepped, readRefusals, read}
 
 -- ---- the counter's three places
@@ -99,7 +101,7 @@ unfolding written
 palette-written n byte after c s q e l same =
     let k = selected (c .state .counter) in
     let counter : s .counter ≡ c .state .counter =
-        ap (λ (d : Chip). d .state .counter) l ∙ (latched-counter k byte after ∙ same) in
+    ap (λ (d : Chip). d .state .counter) l ∙ (latched-counter k byte after ∙ same) in
     ap (λ (x : ℕ). accepting 0 n (chip (stepped (selected x) s) q (after .map))) counter
     ∙ (ap (λ (d : Chip). accepting 0 n (withState (stepped k (d .state)) d)) l
     ∙ ap (λ (m : Moves). let d = latched k byte (m .after) in accepting 0 (m .count) (withState (stepped k (d .state)) d)) e)
@@ -224,3 +226,26 @@ module _ (slots : ℕ) (c : Chip) (h : Sound c) where
   blank-does l n after e =
       ap (λ (m : Moves). accepting 0 (m .count) (m .after)) e
       ∙ goes-on (blankRefusals slots c) c _ (lengths-right c h, (holds-passes _ (l, h .2), tt))
+
+-- ---- reset
+module _ (c : Chip) where
+  pub reset-short : (length (c .queue) ≡ 64 → ⊥) → refusing 1 0 c ≡ reset c
+  unfolding reset
+  reset-short h = stops (resetRefusals c) c _ [] lentLength _ refl tt (not-fails _ (λ g. h (g .0)))
+
+  module _ (l : length (c .queue) ≡ 64) where
+    long : shortQueue c ≡ false
+    long = holds-passes _ (l, tt)
+
+    pub reset-outside : (Holds (keptRanges (c .state)) → ⊥) → refusing 9 0 c ≡ reset c
+    unfolding reset
+    reset-outside h = stops (resetRefusals c) c _ (lentLength ∷ []) outOfRange _ refl (long, tt) (not-fails _ h)
+
+    pub reset-does : Holds (keptRanges (c .state)) → (q : List ℕ) → q ≡ take 0 (c .queue) ++ replicate (64 - 0) 0 ++ drop 64 (c .queue)
+        → accepting 0 0 (chip (fresh (c .state)) q (c .map)) ≡ reset c
+    unfolding reset
+    reset-does h q e =
+        let none : drop 64 (c .queue) ≡ [] = drop-of-length-le (c .queue) {i = 64} (omega arith) in
+        let zero : q ≡ replicate 64 0 = rw none at e ∙ append-nil _ in
+        ap (λ (z : List ℕ). accepting 0 0 (chip (fresh (c .state)) z (c .map))) zero
+        ∙ goes-on (resetRefusals c) c _ (long, (holds-passes _ h, tt))

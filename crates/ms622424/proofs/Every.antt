@@ -86,9 +86,9 @@ unfolding every
 held-in-map [] = refl
 held-in-map (n ∷ l) =
     let e : ltb (n / 16777216) 8192 ≡ ltb n (2 ^ 37) =
-        agree _ _
-        (λ h. let g = ltb-true (n / 16777216) 8192 h in lt-ltb n (2 ^ 37) (omega arith))
-        (λ h. let g = ltb-true n (2 ^ 37) h in lt-ltb (n / 16777216) 8192 (omega arith)) in
+    agree _ _
+    (λ h. let g = ltb-true (n / 16777216) 8192 h in lt-ltb n (2 ^ 37) (omega arith))
+    (λ h. let g = ltb-true n (2 ^ 37) h in lt-ltb (n / 16777216) 8192 (omega arith)) in
     let f = held-in-map l in
     cc
 

@@ -40,7 +40,7 @@ move-next q k i h =
     let d = drop k q in
     let long = length-drop k q in
     let same : getD (front i d q) (k + i) 0 ≡ getD d i 0 =
-        rw (add-comm k i) (front-rest d q i (omega arith) k) ∙ (ap (λ (n : ℕ). getD q n 0) (add-comm i k) ∙ sym (getD-drop k q i 0)) in
+    rw (add-comm k i) (front-rest d q i (omega arith) k) ∙ (ap (λ (n : ℕ). getD q n 0) (add-comm i k) ∙ sym (getD-drop k q i 0)) in
     rw same (front-next d q i (omega arith) (omega arith))
 
 pub front-none : (l q : List ℕ) (i : ℕ) → take i l ≡ take i q → q ≡ front i l q
@@ -86,8 +86,8 @@ closed-up q w k n h g z =
     let whole : j + k ≡ w = omega arith in
     let at : w ≡ length moved + k = omega (arith, long) in
     let behind : drop w (front j d q) ≡ drop w q =
-        ap (λ (x : ℕ). drop x (front j d q)) at
-        ∙ (drop-append-add moved (drop j q) k ∙ (drop-drop k j q ∙ ap (λ (x : ℕ). drop x q) whole)) in
+    ap (λ (x : ℕ). drop x (front j d q)) at
+    ∙ (drop-append-add moved (drop j q) k ∙ (drop-drop k j q ∙ ap (λ (x : ℕ). drop x q) whole)) in
     let gone : w - j ≡ k = omega arith in
     let rest : drop j d ≡ drop w q = drop-drop j k q ∙ ap (λ (x : ℕ). drop x q) (add-comm k j ∙ whole) in
     let turned = zeros-turned k n in
@@ -115,7 +115,7 @@ all-stored-append [] fs m = refl
 all-stored-append (e ∷ es) fs m = all-stored-append es fs (stored e m)
 
 -- the oldest k entries of a queue, one more
-pub held-next : (q : List ℕ) (k : ℕ) → k < length q 
+pub held-next : (q : List ℕ) (k : ℕ) → k < length q
     → held (take (k + 1) q) ≡ held (take k q) ++ (unpacked (getD q k 0) ∷ [])
 held-next q k h = rw (add-one, take-suc q k 0 h) (map-append unpacked (take k q) (getD q k 0 ∷ []))
 

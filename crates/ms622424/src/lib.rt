@@ -1,6 +1,6 @@
 // The MS622424: 8,192 colours behind a write queue of 64 entries.
 mod queue;
-mod range;
+pub mod range;
 
 ghost use mathlib.Core.Path.{_≡_};
 ghost use mathlib.Core.List.{List};
@@ -98,7 +98,13 @@ fn write_palette(s: State, byte: u8, queue: &mut [u64], map: &mut [u8]) -> Answe
 }
 
 #[no_mangle]
-pub extern "C" fn zk_b_write(s: State, select: u8, byte: u8, queue: &mut [u64], map: &mut [u8]) -> Answer
+pub extern "C" fn zk_b_write(
+    s: State,
+    select: u8,
+    byte: u8,
+    queue: &mut [u64],
+    map: &mut [u8],
+) -> Answer
     ensures { λ r. ⌜ outcome r (now (queue .exit)) (now (map .exit)) ≡ write select byte (chip s (now (queue .entry)) (now (map .entry))) ⌝ }
 {
     let refusal = range::standing_tables(s, queue, map.len());

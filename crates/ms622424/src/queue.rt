@@ -1,6 +1,5 @@
 // The write queue: completing, and the moves into the map.
 use super::State;
-
 ghost use mathlib.Core.Path.{_≡_};
 ghost use mathlib.Core.List.{List, _++_};
 ghost use Prim.Native.Nat.{ℕ, _-_, _^_, _≤_, _<_, min};
@@ -51,7 +50,7 @@ fn move_down(queue: &mut [u64], waiting: usize, gone: usize)
 }
 
 // The places from `from` to before `to` are zero.
-pub fn clear(queue: &mut [u64], from: usize, to: usize)
+pub(crate) fn clear(queue: &mut [u64], from: usize, to: usize)
     requires { ⌜ (from ≤ to) × (to ≤ length (now queue)) ⌝ }
     ensures { λ _. ⌜ now (queue .exit) ≡ take from (now (queue .entry)) ++ replicate (to - from) 0 ++ drop to (now (queue .entry)) ⌝ }
 {
@@ -63,7 +62,7 @@ pub fn clear(queue: &mut [u64], from: usize, to: usize)
 }
 
 // The moves of `slots` slots: into the map, and the queue closed up.
-pub fn transfer(s: State, slots: u32, queue: &mut [u64], map: &mut [u8]) -> u8
+pub(crate) fn transfer(s: State, slots: u32, queue: &mut [u64], map: &mut [u8]) -> u8
     requires { ⌜ Sound (chip s (now queue) (now map)) ⌝ }
     ensures { λ r. ⌜ (r ≡ min slots (s .waiting)) × (made r (chip (queued s (s .waiting - r)) (now (queue .exit)) (now (map .exit))) ≡ moves slots (chip s (now (queue .entry)) (now (map .entry)))) ⌝ }
 {
@@ -75,7 +74,7 @@ pub fn transfer(s: State, slots: u32, queue: &mut [u64], map: &mut [u8]) -> u8
 }
 
 // A full queue makes room for four entries: how many it moved.
-pub fn make_room(s: State, queue: &mut [u64], map: &mut [u8]) -> u8
+pub(crate) fn make_room(s: State, queue: &mut [u64], map: &mut [u8]) -> u8
     requires { ⌜ Sound (chip s (now queue) (now map)) ⌝ }
     ensures { λ r. ⌜ (r ≤ s .waiting) × (s .waiting - r < 64) × (made r (chip (queued s (s .waiting - r)) (now (queue .exit)) (now (map .exit))) ≡ roomMade (chip s (now (queue .entry)) (now (map .entry)))) ⌝ }
 {
@@ -93,7 +92,7 @@ fn entry(s: State, blue: u8) -> u64
 }
 
 // Red and green go to the buffer; blue completes, and its entry goes to the queue's end.
-pub fn latch(s: State, byte: u8, queue: &mut [u64]) -> State
+pub(crate) fn latch(s: State, byte: u8, queue: &mut [u64]) -> State
     requires { ⌜ (length (now queue) ≡ 64) × (s .waiting < 64) ⌝ }
     ensures { λ r. ⌜ ((m : List ℕ) → chip r (now (queue .exit)) m ≡ latched (selected (s .counter)) byte (chip s (now (queue .entry)) m)) ⌝ }
 {

@@ -1,6 +1,5 @@
 // Ranges: what refusals 1 and 9 ask of a state and of the lent tables.
 use super::State;
-
 ghost use mathlib.Core.Path.{_≡_};
 ghost use mathlib.Core.Bool.{_&&_};
 ghost use mathlib.Core.List.{List};

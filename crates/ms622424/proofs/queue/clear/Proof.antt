@@ -48,8 +48,8 @@ loop-again c =
       omega arith,
       simp length-set (c .before .loop .inv .2),
       ap (λ (x : List ℕ). set x i 0) (c .before .loop .inv .3)
-      ∙ (ap (set (front i l q) i) (sym (zeroed-at q (a .from) (a .to) h g i (omega arith) (omega arith)))
-      ∙ front-next l q i (omega arith) (omega arith)),
+          ∙ (ap (set (front i l q) i) (sym (zeroed-at q (a .from) (a .to) h g i (omega arith) (omega arith)))
+          ∙ front-next l q i (omega arith) (omega arith)),
     )
 
 same-length : tie.Need-same-length Inv-loop μ-loop

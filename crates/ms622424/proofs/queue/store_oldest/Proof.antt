@@ -48,8 +48,8 @@ loop-again c =
       omega arith,
       omega arith,
       c .before .before .store .ensures
-      ∙ (ap (stored (unpacked (getD (a .queue .now) (at .loop .moved) 0))) (at .loop .inv .2)
-      ∙ stored-next (a .queue .now) (at .loop .moved) (a .map .now) (omega arith)),
+          ∙ (ap (stored (unpacked (getD (a .queue .now) (at .loop .moved) 0))) (at .loop .inv .2)
+          ∙ stored-next (a .queue .now) (at .loop .moved) (a .map .now) (omega arith)),
     )
 
 same-length : tie.Need-same-length Inv-loop μ-loop

@@ -39,10 +39,11 @@ returns c =
     let stores = down .before .before .before .before in
     let start = stores .before .before .before .before .before .before in
     let a = start .args in
-    let moved = stores .store-oldest in
-    (moved .ensures .0,
-     transferred (a .slots) (moved .result) (chip (a .s) (a .queue .now) (a .map .now)) _ _ _ (start .pre) (moved .ensures .0)
-     (down .move-down .ensures) (c .before .before .clear .ensures) (moved .ensures .1))
+    let moved = stores .store-oldest in (
+      moved .ensures .0,
+      transferred (a .slots) (moved .result) (chip (a .s) (a .queue .now) (a .map .now)) _ _ _ (start .pre) (moved .ensures .0)
+          (down .move-down .ensures) (c .before .before .clear .ensures) (moved .ensures .1),
+    )
 
 pub transfer-spec : {M : Type 1} → statement M
 transfer-spec =

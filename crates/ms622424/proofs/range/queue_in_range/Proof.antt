@@ -17,7 +17,7 @@ returns c =
     let a = c .before .before .before .args in
     let g = c .before .gathered in
     let no : every inMap (held (take (a .waiting) (a .queue .now))) ≡ false =
-        sym (waiting-bits (a .queue .now) (a .waiting) (g .result) (g .ensures 37)) ∙ le-ltb _ _ (c .if1 .taken) in
+    sym (waiting-bits (a .queue .now) (a .waiting) (g .result) (g .ensures 37)) ∙ le-ltb _ _ (c .if1 .taken) in
     rw no refl
 
 gathered-requires-2 : tie.Need-gathered-requires-2
@@ -28,7 +28,7 @@ returns-2 c =
     let a = c .before .before .before .before .args in
     let g = c .before .before .gathered in
     let yes : every inMap (held (take (a .waiting) (a .queue .now))) ≡ true =
-        sym (waiting-bits (a .queue .now) (a .waiting) (g .result) (g .ensures 37)) ∙ lt-ltb _ _ (c .before .if1 .left) in
+    sym (waiting-bits (a .queue .now) (a .waiting) (g .result) (g .ensures 37)) ∙ lt-ltb _ _ (c .before .if1 .left) in
     rw yes (unused-bits (a .queue .now) (a .waiting) (c .gathered2 .result) 64 (search needs) (c .gathered2 .ensures 0))
 
 pub queue-in-range-spec : {M : Type 1} → statement M
