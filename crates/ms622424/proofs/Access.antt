@@ -9,15 +9,15 @@ use borrow.Author.Tests.{eq-eqb, ne-eqb}
 use lib.Dec.{eqb}
 use lib.ListN.{length, take, drop, replicate, drop-of-length-le}
 use Rattle.vocabulary.specs.Range.{Bound, below, fails, Holds}
-use Rattle.vocabulary.specs.Refusal.{Refusal, number, order, Row, _when_, due, refusalOf, standing}
+use Rattle.vocabulary.specs.Refusal.{Refusal, number, order, Row, due, refusalOf, standing}
 use Rattle.vocabulary.specs.Refusal.{lentLength, outOfRange, noAccess, noIndex, readMode, stillWaiting}
-use Rattle.vocabulary.specs.Refusal.{overFifteen, shortBuffer, malformed}
 use Rattle.vocabulary.specs.Outcome.{Outcome, accepting, refusing, answered}
 use Rattle.vocabulary.proofs.Range.{clash, holds-passes, not-fails, holds-parts}
 use Rattle.vocabulary.proofs.Refusal.{None, Clear, refusal-is, refusal-none, standing-first}
-use Rattle.vocabulary.proofs.Outcome.{refusal-keeps, accepted-does}
+use Rattle.vocabulary.proofs.Outcome.{refusal-keeps, refused-as, accepted-does}
+use Rattle.ms622424.specs.declared.Answer.{Answer}
 use Rattle.ms622424.specs.declared.State.{State}
-use Rattle.ms622424.specs.Ms622424.{Chip, chip, ranges, shortTable, Sound, registerAt, isPalette}
+use Rattle.ms622424.specs.Ms622424.{Chip, chip, outcome, ranges, shortTable, Sound, registerAt, isPalette}
 use Rattle.ms622424.specs.Ms622424.{Colour, red, green, blue, selected, stepped, withState, complete}
 use Rattle.ms622424.specs.Ms622424.{Moves, made, roomMade, latched, palette, written, writable, writeRefusals, write}
 use Rattle.ms622424.specs.Ms622424.{moves, blankRefusals, blank}
@@ -39,6 +39,10 @@ is-blue zero e f = absurd (e refl)
 is-blue (suc zero) e f = absurd (f refl)
 is-blue (suc (suc counter)) e f = refl
 
+-- equal answers leave the same
+pub same-answer : {a b : Answer} (q m : List ℕ) → a ≡ b → outcome a q m ≡ outcome b q m
+same-answer q m e = rw e refl
+
 -- ---- a call's table of refusals
 -- what fails the ranges fails them with an argument's range before them
 pub outside-too : (cs bs : List Bound) → fails bs ≡ true → fails (cs ++ bs) ≡ true
@@ -52,22 +56,11 @@ tried-first rows c done short outside r e f g h =
     let same : refusalOf rows ≡ r = standing-first short outside rows e f (λ z. h (g ∙ z)) ∙ sym g in
     rw same (sym (refusal-keeps r 0 c done h))
 
-no-zero : (r : Refusal) → number r ≡ 0 → ⊥
-no-zero lentLength e = omega arith
-no-zero overFifteen e = omega arith
-no-zero noAccess e = omega arith
-no-zero noIndex e = omega arith
-no-zero readMode e = omega arith
-no-zero stillWaiting e = omega arith
-no-zero shortBuffer e = omega arith
-no-zero malformed e = omega arith
-no-zero outOfRange e = omega arith
-
 -- past it, a call is refused by the first row that is due, or does what it does
 module _ (rows : List Row) (c : Chip) (done : Outcome Chip) where
-  pub stops : (before : List Refusal) (r : Refusal) (after : List Refusal) → before ++ (r ∷ after) ≡ order
-      → None (due rows) before → due rows r ≡ true → refusing (number r) 0 c ≡ answered (refusalOf rows) c done
-  stops before r after split h e = rw (refusal-is rows before r after split h e) (sym (refusal-keeps (number r) 0 c done (no-zero r)))
+  pub stops : (before : List Refusal) (r : Refusal) (m : ℕ) (after : List Refusal) → before ++ (r ∷ after) ≡ order
+      → number r ≡ suc m → None (due rows) before → due rows r ≡ true → refusing (suc m) 0 c ≡ answered (refusalOf rows) c done
+  stops before r m after split e h t = sym (refused-as m 0 c done (refusal-is rows before r after split h t ∙ e))
 
   pub goes-on : Clear rows → done ≡ answered (refusalOf rows) c done
   goes-on h = sym (accepted-does 0 c done (refusal-none rows h))
@@ -121,7 +114,7 @@ module _ (byte : ℕ) (small : byte < 256) (c : Chip) (h : Sound c) where
   pub write-no-access : (select : ℕ) → writable (registerAt select) ≡ false → refusing 3 0 c ≡ write select byte c
   unfolding write
   write-no-access select e =
-      stops (writeRefusals select byte c) c _ (lentLength ∷ outOfRange ∷ []) noAccess _ refl
+      stops (writeRefusals select byte c) c _ (lentLength ∷ outOfRange ∷ []) noAccess 2 _ refl refl
       (lengths-right c h, (inside, tt)) (ap not e)
 
   -- the palette in read mode
@@ -129,7 +122,7 @@ module _ (byte : ℕ) (small : byte < 256) (c : Chip) (h : Sound c) where
   unfolding write registerAt writable
   write-read-mode select e f =
       rw e
-      (stops (writeRefusals 2 byte c) c _ (lentLength ∷ outOfRange ∷ noAccess ∷ noIndex ∷ []) readMode _ refl
+      (stops (writeRefusals 2 byte c) c _ (lentLength ∷ outOfRange ∷ noAccess ∷ noIndex ∷ []) readMode 4 _ refl refl
       (lengths-right c h, (inside, (refl, (refl, tt)))) (eq-eqb _ 1 f))
 
 -- every other select
@@ -165,7 +158,7 @@ module _ (c : Chip) (h : Sound c) where
       → refusing 3 0 c ≡ read select c
   unfolding read
   read-no-access select e =
-      stops (readRefusals select c) c _ (lentLength ∷ outOfRange ∷ []) noAccess _ refl
+      stops (readRefusals select c) c _ (lentLength ∷ outOfRange ∷ []) noAccess 2 _ refl refl
       (lengths-right c h, (ranges-right c h, tt)) (ap not e)
 
   -- the palette outside read mode, and with entries waiting
@@ -173,7 +166,7 @@ module _ (c : Chip) (h : Sound c) where
   unfolding read registerAt readable
   read-outside-mode select e f =
       rw e
-      (stops (readRefusals 2 c) c _ (lentLength ∷ outOfRange ∷ noAccess ∷ noIndex ∷ []) readMode _ refl
+      (stops (readRefusals 2 c) c _ (lentLength ∷ outOfRange ∷ noAccess ∷ noIndex ∷ []) readMode 4 _ refl refl
       (lengths-right c h, (ranges-right c h, (refl, (refl, tt)))) (eq-eqb _ 0 f))
 
   pub read-waiting : (select : ℕ) → select ≡ 2 → (c .state .readmode ≡ 0 → ⊥) → (c .state .waiting ≡ 0 → ⊥)
@@ -181,7 +174,7 @@ module _ (c : Chip) (h : Sound c) where
   unfolding read registerAt readable
   read-waiting select e f g =
       rw e
-      (stops (readRefusals 2 c) c _ (lentLength ∷ outOfRange ∷ noAccess ∷ noIndex ∷ readMode ∷ []) stillWaiting _ refl
+      (stops (readRefusals 2 c) c _ (lentLength ∷ outOfRange ∷ noAccess ∷ noIndex ∷ readMode ∷ []) stillWaiting 5 _ refl refl
       (lengths-right c h, (ranges-right c h, (refl, (refl, (ne-eqb _ 0 f, tt))))) (ap not (ne-eqb _ 0 g)))
 
   -- the buffer at red and at green
@@ -217,7 +210,7 @@ module _ (slots : ℕ) (c : Chip) (h : Sound c) where
   pub blank-too-many : 65536 ≤ slots → refusing 9 0 c ≡ blank slots c
   unfolding blank
   blank-too-many l =
-      stops (blankRefusals slots c) c _ (lentLength ∷ []) outOfRange _ refl (lengths-right c h, tt)
+      stops (blankRefusals slots c) c _ (lentLength ∷ []) outOfRange 8 _ refl refl (lengths-right c h, tt)
       (not-fails _ (λ g. omega arith))
 
   pub blank-does : slots < 65536 → (n : ℕ) (after : Chip) → made n after ≡ moves slots c
@@ -231,7 +224,7 @@ module _ (slots : ℕ) (c : Chip) (h : Sound c) where
 module _ (c : Chip) where
   pub reset-short : (length (c .queue) ≡ 64 → ⊥) → refusing 1 0 c ≡ reset c
   unfolding reset
-  reset-short h = stops (resetRefusals c) c _ [] lentLength _ refl tt (not-fails _ (λ g. h (g .0)))
+  reset-short h = stops (resetRefusals c) c _ [] lentLength 0 _ refl refl tt (not-fails _ (λ g. h (g .0)))
 
   module _ (l : length (c .queue) ≡ 64) where
     long : shortQueue c ≡ false
@@ -239,7 +232,7 @@ module _ (c : Chip) where
 
     pub reset-outside : (Holds (keptRanges (c .state)) → ⊥) → refusing 9 0 c ≡ reset c
     unfolding reset
-    reset-outside h = stops (resetRefusals c) c _ (lentLength ∷ []) outOfRange _ refl (long, tt) (not-fails _ h)
+    reset-outside h = stops (resetRefusals c) c _ (lentLength ∷ []) outOfRange 8 _ refl refl (long, tt) (not-fails _ h)
 
     pub reset-does : Holds (keptRanges (c .state)) → (q : List ℕ) → q ≡ take 0 (c .queue) ++ replicate (64 - 0) 0 ++ drop 64 (c .queue)
         → accepting 0 0 (chip (fresh (c .state)) q (c .map)) ≡ reset c

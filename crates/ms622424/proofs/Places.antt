@@ -1,5 +1,5 @@
 -- Laws of places that a loop writes from the front, and of the map under stores. Assumes nothing.
-use Prim.Native.Nat.{ℕ, zero, suc, _+_, _-_, _<_, _≤_}
+use Prim.Native.Nat.{ℕ, suc, _+_, _-_, _<_, _≤_}
 use mathlib.Core.Path.{_≡_, refl, sym, ap, _∙_}
 use mathlib.Core.List.{List, [], _∷_, _++_, append-assoc, map-append}
 use native.Mathlib.Nat.{add-comm}
@@ -8,7 +8,7 @@ use native.Mathlib.Omega.{arith}
 use lib.ListN.{length, getD, take, drop, set, replicate, length-set, length-append, length-take, length-drop}
 use lib.ListN.{length-replicate, getD-replicate, take-append-drop, replicate-append-replicate}
 use lib.Seq.{take-suc, drop-cons, length-take-le, set-at, take-at, take-all, append-snoc, getD-append-add, getD-drop}
-use lib.Seq.{drop-append-add, drop-drop, length-front}
+use lib.Seq.{drop-append-add, drop-drop}
 use Rattle.ms622424.specs.Ms622424.{Entry, held, unpacked, stored, allStored}
 
 -- q with its first i places as in l

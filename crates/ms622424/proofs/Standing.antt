@@ -1,16 +1,16 @@
 -- Laws of what every call tries first: the lent tables' lengths, then the ranges. Assumes nothing.
-use Prim.Native.Nat.{ℕ, _+_, _^_, _<_, _≤_}
-use mathlib.Core.Path.{_≡_, refl, sym, ap, _∙_}
+use Prim.Native.Nat.{ℕ, _^_, _<_}
+use mathlib.Core.Path.{_≡_, refl, sym, _∙_}
 use mathlib.Core.Bool.{Bool, true, false, _&&_}
-use mathlib.Core.List.{List, [], _∷_}
+use mathlib.Core.List.{List}
 use native.Mathlib.Omega.{arith}
 use borrow.Author.Tests.{ltb-true, eq-eqb}
 use lib.Dec.{ltb}
 use lib.ListN.{length, getD, take, drop, replicate}
 use lib.Seq.{getD-take, length-take-le}
-use Rattle.vocabulary.specs.Range.{meets, fails, Holds}
+use Rattle.vocabulary.specs.Range.{meets, fails}
 use Rattle.vocabulary.specs.Refusal.{refusalOf, standing}
-use Rattle.vocabulary.proofs.Range.{agree, meets-holds, holds-meets, not-fails, holds-passes, passes-holds}
+use Rattle.vocabulary.proofs.Range.{agree, meets-holds, holds-meets, passes-holds}
 use Rattle.vocabulary.proofs.Refusal.{standing-clear}
 use Rattle.ms622424.specs.declared.State.{State}
 use Rattle.ms622424.specs.Ms622424.{Chip, chip, held, waitingColours, every, inMap, isZero}

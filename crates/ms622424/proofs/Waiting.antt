@@ -1,16 +1,15 @@
 -- Laws of the waiting colours: what completing appends, and what the moves take. Assumes nothing.
 use Prim.Native.Nat.{ℕ, zero, suc, _+_, _-_, _*_, _/_, _%_, _<_, _≤_, min}
 use mathlib.Core.Path.{_≡_, refl, sym, ap, _∙_}
-use mathlib.Core.Bool.{true, false}
 use mathlib.Core.List.{List, [], _∷_, _++_, map, map-append, append-nil, append-assoc}
 use native.Mathlib.Nat.{add-zero, zero-add, suc-add}
 use native.Mathlib.Numerals.{add-one}
 use native.Mathlib.Omega.{arith}
 use borrow.Author.Tests.{eq-eqb, ne-eqb, ltb-true, ltb-false}
 use lib.Dec.{ltb}
-use lib.ListN.{length, getD, take, drop, set, replicate, length-append, length-drop, length-replicate, List·getD-append}
+use lib.ListN.{length, getD, take, drop, replicate, length-drop, List·getD-append}
 use lib.ListN.{replicate-append-replicate}
-use lib.Seq.{take-suc, take-suc-set, take-take, drop-append-le, drop-drop, getD-drop, take-append-le, take-nil, drop-nil}
+use lib.Seq.{take-suc-set, take-take, drop-append-le, drop-drop, getD-drop, take-append-le, take-nil, drop-nil}
 use Rattle.vocabulary.proofs.Choice.{cases, picks-first, picks-second}
 use Rattle.ms622424.specs.declared.State.{State}
 use Rattle.ms622424.specs.Ms622424.{Chip, chip, queued, Entry, packed, unpacked, held, waitingColours, Sound}

@@ -105,7 +105,8 @@ pub extern "C" fn zk_b_write(
     queue: &mut [u64],
     map: &mut [u8],
 ) -> Answer
-    ensures { λ r. ⌜ outcome r (now (queue .exit)) (now (map .exit)) ≡ write select byte (chip s (now (queue .entry)) (now (map .entry))) ⌝ }
+    ensures { λ r. ⌜ outcome r (now (queue .exit)) (now (map .exit))
+        ≡ write select byte (chip s (now (queue .entry)) (now (map .entry))) ⌝ }
 {
     let refusal = range::standing_tables(s, queue, map.len());
     if refusal != 0 {

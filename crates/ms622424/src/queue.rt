@@ -4,7 +4,7 @@ ghost use mathlib.Core.Path.{_≡_};
 ghost use mathlib.Core.List.{List, _++_};
 ghost use Prim.Native.Nat.{ℕ, _-_, _^_, _≤_, _<_, min};
 ghost use lib.ListN.{length, getD, take, drop, replicate};
-ghost use Rattle.ms622424.specs.Ms622424.{Chip, Sound, chip, held, unpacked, stored, allStored, made, moves};
+ghost use Rattle.ms622424.specs.Ms622424.{Sound, chip, held, unpacked, stored, allStored, made, moves};
 ghost use Rattle.ms622424.specs.Ms622424.{roomMade, selected, latched, queued, packed, completed};
 
 // An entry's three bytes go into the map.

@@ -1,18 +1,18 @@
 -- Laws of a pixel and of the timing signals. Assumes nothing.
-use Prim.Native.Nat.{ℕ, zero, suc, _+_, _*_, _/_, _%_, _^_, _<_, _≤_}
+use Prim.Native.Nat.{ℕ, suc, _+_, _*_, _/_, _%_, _^_, _<_, _≤_}
 use mathlib.Core.Path.{_≡_, refl, sym, ap, _∙_}
-use mathlib.Core.Bool.{true, false}
-use mathlib.Core.List.{List, [], _∷_}
+use mathlib.Core.Bool.{false}
+use mathlib.Core.List.{[], _∷_}
 use native.Mathlib.Nat.{add-zero}
 use native.Mathlib.Omega.{arith}
 use lib.Bits.{bitAnd, bitOr}
 use lib.ListN.{getD}
-use Rattle.vocabulary.specs.Range.{fails, Holds}
-use Rattle.vocabulary.specs.Refusal.{Row, lentLength, outOfRange}
+use Rattle.vocabulary.specs.Range.{Holds}
+use Rattle.vocabulary.specs.Refusal.{lentLength, outOfRange}
 use Rattle.vocabulary.specs.Outcome.{accepting, refusing}
 use Rattle.vocabulary.proofs.Range.{holds-passes, not-fails}
-use Rattle.vocabulary.proofs.Table.{values, table-rule}
-use Rattle.ms622424.specs.Ms622424.{Chip, Sound, ranges, shortQueue, Colour, red, green, blue, gun, pixelByte, entryShown, gunShown}
+use Rattle.vocabulary.proofs.Table.{table-rule}
+use Rattle.ms622424.specs.Ms622424.{Chip, Sound, ranges, shortQueue, Colour, red, green, blue, pixelByte, entryShown, gunShown}
 use Rattle.ms622424.specs.Ms622424.{pout, pixelRefusals, pixel, pipeOut, syncRefusals, sync}
 use Rattle.ms622424.proofs.Access.{stops, goes-on, lengths-right}
 
@@ -32,7 +32,7 @@ module _ (mode word : ℕ) (c : Chip) (h : Sound c) where
   pub pixel-outside : (mode < 4 → word < 2 ^ 24 → ⊥) → refusing 9 0 c ≡ pixel mode word c
   unfolding pixel
   pixel-outside f =
-      stops (pixelRefusals mode word c) c _ (lentLength ∷ []) outOfRange _ refl (lengths-right c h, tt)
+      stops (pixelRefusals mode word c) c _ (lentLength ∷ []) outOfRange 8 _ refl refl (lengths-right c h, tt)
       (not-fails _ (λ g. f (g .0) (g .1 .0)))
 
   -- the three bytes at the entries that the guns show
@@ -70,7 +70,7 @@ module _ (signals : ℕ) (c : Chip) (l : shortQueue c ≡ false) where
   pub sync-outside : 16 ≤ signals → refusing 9 0 c ≡ sync signals c
   unfolding sync
   sync-outside h =
-      stops (syncRefusals signals c) c _ (lentLength ∷ []) outOfRange _ refl (l, tt) (not-fails _ (λ g. omega arith))
+      stops (syncRefusals signals c) c _ (lentLength ∷ []) outOfRange 8 _ refl refl (l, tt) (not-fails _ (λ g. omega arith))
 
   pub sync-does : signals < 16 → Holds (ranges c) → (v : ℕ) → v ≡ pipeOut (c .state .command) signals
       → accepting v 0 c ≡ sync signals c

@@ -1,11 +1,11 @@
-use mathlib.Core.Path.{_≡_, refl, sym, ap, _∙_}
+use mathlib.Core.Path.{refl, sym, ap, _∙_}
 use mathlib.Core.List.{[], _∷_}
 use native.Mathlib.Omega.{arith}
 use Rattle.vocabulary.specs.Range.{below, fails}
 use Rattle.ms622424.specs.declared.Answer.{Answer}
 use Rattle.ms622424.specs.Ms622424.{Chip, chip, Sound, ranges, shortTable, outcome, blankRefusals, blank}
 use Rattle.ms622424.proofs.Standing.{sound}
-use Rattle.ms622424.proofs.Access.{outside-too, tried-first, blank-too-many, blank-does}
+use Rattle.ms622424.proofs.Access.{same-answer, outside-too, tried-first, blank-too-many, blank-does}
 use borrow.Author.Needs.{needs}
 use Rattle.ms622424.proofs.zk_b_blank.Statement.{statement}
 use Rattle.ms622424.proofs.zk_b_blank.Tie as tie
@@ -18,11 +18,6 @@ known : (c : tie.Else1) → Sound (given (c .before .before .before .before .bef
 known c =
     let map = c .before .before .before .before .before .args .map .now in
     sound _ (sym (c .before .standing-tables .ensures map refl) ∙ c .if1 .left)
-
--- the same answer leaves the same
-same : (c : tie.Start) {a b : Answer} → a ≡ b
-    → outcome a (c .args .queue .now) (c .args .map .now) ≡ outcome b (c .args .queue .now) (c .args .map .now)
-same c e = rw e refl
 
 standing-tables-requires : tie.Need-standing-tables-requires
 standing-tables-requires c κs = search needs
@@ -38,7 +33,7 @@ unfolding blank
 returns c =
     let start = c .before .before .before .before .before .before in
     let d = given start in
-    same start (c .refused .ensures)
+    same-answer _ _ (c .refused .ensures)
     ∙ tried-first (blankRefusals (start .args .slots) d) d _ (shortTable d) (fails (ranges d)) _ refl
     (outside-too (below (start .args .slots) 65536 ∷ []) (ranges d)) (c .before .before .standing-tables .ensures (d .map) refl)
     (c .before .if1 .taken)
@@ -52,7 +47,7 @@ same-length-2 c = search needs
 returns-2 : tie.Need-returns-2
 returns-2 c =
     let past = c .before .before in
-    same (past .before .before .before .before .before) (c .refused2 .ensures)
+    same-answer _ _ (c .refused2 .ensures)
     ∙ blank-too-many _ _ (known past) (omega arith)
 
 transfer-requires : tie.Need-transfer-requires

@@ -6,12 +6,11 @@ use lib.Dec.{eqb}
 use borrow.Author.Tests.{eq-eqb, ne-eqb}
 use Rattle.vocabulary.specs.Outcome.{Outcome}
 use Rattle.vocabulary.specs.Range.{fails}
-use Rattle.ms622424.specs.declared.Answer.{Answer}
-use Rattle.ms622424.specs.Ms622424.{Chip, chip, Sound, ranges, shortTable, outcome, accept, registerAt, isPalette}
+use Rattle.ms622424.specs.Ms622424.{Chip, chip, Sound, ranges, shortTable, accept, registerAt, isPalette}
 use Rattle.ms622424.specs.Ms622424.{red, green, selected, stepped, readable, readRefusals, answers, read}
 use Rattle.ms622424.specs.Ms622424.{bufferByte, bufferStepped}
 use Rattle.ms622424.proofs.Standing.{sound}
-use Rattle.ms622424.proofs.Access.{tried-first, read-does, read-no-access, read-outside-mode, read-waiting, read-buffer}
+use Rattle.ms622424.proofs.Access.{same-answer, tried-first, read-does, read-no-access, read-outside-mode, read-waiting, read-buffer}
 use Rattle.ms622424.proofs.Access.{is-red, is-green, is-blue, buffer-at-blue, not-read}
 use borrow.Author.Needs.{needs}
 use Rattle.ms622424.proofs.zk_b_read.Statement.{statement}
@@ -35,11 +34,6 @@ arm : (c : tie.Else1) (k : ℕ) {o : Outcome Chip} → c .before .before .before
     → o ≡ read (c .before .before .before .before .args .select) (given (c .before .before .before .before))
 arm c k = read-does _ (known c) k _
 
--- the same answer leaves the same
-same : (c : tie.Start) {a b : Answer} → a ≡ b
-    → outcome a (c .args .queue .now) (c .args .map .now) ≡ outcome b (c .args .queue .now) (c .args .map .now)
-same c e = rw e refl
-
 standing-tables-requires : tie.Need-standing-tables-requires
 standing-tables-requires c κs = search needs
 
@@ -51,7 +45,7 @@ unfolding read
 returns c =
     let start = c .before .before .before .before .before in
     let d = given start in
-    same start (c .refused .ensures)
+    same-answer _ _ (c .refused .ensures)
     ∙ tried-first (readRefusals (start .args .select) d) d _ (shortTable d) (fails (ranges d)) _ refl (λ e. e)
     (c .before .before .standing-tables .ensures (d .map) refl) (c .before .if1 .taken)
 
@@ -73,7 +67,7 @@ refused-requires-2 c κs = search needs
 returns-2 : tie.Need-returns-2
 returns-2 c =
     let past = c .before .before .before .before in
-    same (past .before .before .before .before) (c .refused2 .ensures)
+    same-answer _ _ (c .refused2 .ensures)
     ∙ read-outside-mode _ (known past) _ (c .before .before .before .match .keys3) (c .before .if2 .taken)
 
 refused-requires-3 : tie.Need-refused-requires-3
@@ -82,7 +76,7 @@ refused-requires-3 c κs = search needs
 returns-3 : tie.Need-returns-3
 returns-3 c =
     let past = c .before .before .before .before .before .before in
-    same (past .before .before .before .before) (c .refused3 .ensures)
+    same-answer _ _ (c .refused3 .ensures)
     ∙ read-waiting _ (known past) _ (c .before .before .before .before .before .match .keys3) (c .before .before .before .if2 .left)
     (c .before .if3 .taken)
 
@@ -128,52 +122,52 @@ returns-4 : tie.Need-returns-4
 unfolding registerAt readable answers
 returns-4 c =
     let past = c .before .before .before in
-    arm past 0 (c .before .before .match .keys1) refl refl refl (same (past .before .before .before .before) (c .accepted .ensures))
+    arm past 0 (c .before .before .match .keys1) refl refl refl (same-answer _ _ (c .accepted .ensures))
 
 returns-5 : tie.Need-returns-5
 unfolding registerAt readable answers
 returns-5 c =
     let past = c .before .before .before in
-    arm past 1 (c .before .before .match .keys2) refl refl refl (same (past .before .before .before .before) (c .accepted2 .ensures))
+    arm past 1 (c .before .before .match .keys2) refl refl refl (same-answer _ _ (c .accepted2 .ensures))
 
 returns-6 : tie.Need-returns-6
 unfolding registerAt readable answers
 returns-6 c =
     let past = c .before .before .before .before .before .before in
     arm past 2 (c .before .before .before .before .before .match .keys3) refl (ne-eqb _ 0 (c .before .before .before .if2 .left))
-    (ap not (eq-eqb _ 0 (c .before .if3 .left))) (same (past .before .before .before .before) (c .read-palette .ensures))
+    (ap not (eq-eqb _ 0 (c .before .if3 .left))) (same-answer _ _ (c .read-palette .ensures))
 
 returns-7 : tie.Need-returns-7
 unfolding registerAt readable answers
 returns-7 c =
     let past = c .before .before in
-    arm past 3 (c .before .match .keys4) refl refl refl (same (past .before .before .before .before) (c .accepted3 .ensures))
+    arm past 3 (c .before .match .keys4) refl refl refl (same-answer _ _ (c .accepted3 .ensures))
 
 returns-8 : tie.Need-returns-8
 unfolding registerAt readable answers
 returns-8 c =
     let past = c .before .before .before in
-    arm past 4 (c .before .before .match .keys5) refl refl refl (same (past .before .before .before .before) (c .accepted4 .ensures ∙ ap (λ (n : ℕ). accept n 0 (past .before .before .before .before .args .s)) (c .before .status .ensures)))
+    arm past 4 (c .before .before .match .keys5) refl refl refl (same-answer _ _ (c .accepted4 .ensures ∙ ap (λ (n : ℕ). accept n 0 (past .before .before .before .before .args .s)) (c .before .status .ensures)))
 
 returns-9 : tie.Need-returns-9
 unfolding readable bufferByte bufferStepped stepped
 returns-9 c =
     let past = c .before .before .before in
-    same (past .before .before .before .before) (c .accepted5 .ensures)
+    same-answer _ _ (c .accepted5 .ensures)
     ∙ read-buffer _ (known past) _ red (c .before .before .match .keys6) (is-red _ (c .before .match2 .keys1)) refl
 
 returns-10 : tie.Need-returns-10
 unfolding readable bufferByte bufferStepped
 returns-10 c =
     let past = c .before .before .before in
-    same (past .before .before .before .before) (c .accepted6 .ensures)
+    same-answer _ _ (c .accepted6 .ensures)
     ∙ read-buffer _ (known past) _ green (c .before .before .match .keys6) (is-green _ (c .before .match2 .keys2)) refl
 
 returns-11 : tie.Need-returns-11
 returns-11 c =
     let past = c .before .before .before in
     let rest = c .before .match2 .rest in
-    same (past .before .before .before .before) (c .refused4 .ensures)
+    same-answer _ _ (c .refused4 .ensures)
     ∙ read-no-access _ (known past) _
     (buffer-at-blue _ _ (c .before .before .match .keys6) (is-blue _ (rest .0 .1) (rest .1)))
 
@@ -181,19 +175,19 @@ returns-12 : tie.Need-returns-12
 unfolding registerAt readable answers
 returns-12 c =
     let past = c .before .before .before .before in
-    arm past 6 (c .before .before .before .match .keys7) refl refl refl (same (past .before .before .before .before) (c .accepted7 .ensures))
+    arm past 6 (c .before .before .before .match .keys7) refl refl refl (same-answer _ _ (c .accepted7 .ensures))
 
 returns-13 : tie.Need-returns-13
 unfolding registerAt readable answers
 returns-13 c =
     let past = c .before .before in
-    arm past 7 (c .before .match .keys8) refl refl refl (same (past .before .before .before .before) (c .accepted8 .ensures))
+    arm past 7 (c .before .match .keys8) refl refl refl (same-answer _ _ (c .accepted8 .ensures))
 
 returns-14 : tie.Need-returns-14
 returns-14 c =
     let past = c .before .before in
     let rest = c .before .match .rest in
-    same (past .before .before .before .before) (c .refused5 .ensures)
+    same-answer _ _ (c .refused5 .ensures)
     ∙ read-no-access _ (known past) _
     (not-read _ _ (rest .0 .0 .0 .0 .0 .0 .0 .1) (rest .0 .0 .0 .0 .0 .0 .1) (rest .0 .0 .0 .0 .0 .1) (rest .0 .0 .0 .0 .1)
     (rest .0 .0 .0 .1) (rest .0 .0 .1) (rest .0 .1) (rest .1))

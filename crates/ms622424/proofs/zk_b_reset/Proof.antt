@@ -1,33 +1,30 @@
-use mathlib.Core.Path.{_≡_, refl, ap, _∙_}
+use mathlib.Core.Path.{ap, _∙_}
 use mathlib.Core.List.{List}
 use Prim.Native.Nat.{ℕ}
 use native.Mathlib.Omega.{arith}
 use Rattle.ms622424.specs.declared.Answer.{Answer}
 use Rattle.ms622424.specs.Ms622424.{Chip, chip, outcome}
-use Rattle.ms622424.proofs.Access.{reset-short, reset-outside, reset-does}
+use Rattle.ms622424.proofs.Access.{same-answer, reset-short, reset-outside, reset-does}
 use borrow.Author.Needs.{needs}
 use Rattle.ms622424.proofs.zk_b_reset.Statement.{statement}
 use Rattle.ms622424.proofs.zk_b_reset.Tie as tie
 
--- the chip as the call finds it, with whatever map, and the same answer leaves the same
+-- the chip as the call finds it, with whatever map
 abbrev given : tie.Start → List ℕ → Chip
 given c m = chip (c .args .s) (c .args .queue .now) m
-
-same : (c : tie.Start) (m : List ℕ) {a b : Answer} → a ≡ b → outcome a (c .args .queue .now) m ≡ outcome b (c .args .queue .now) m
-same c m e = rw e refl
 
 refused-requires : tie.Need-refused-requires
 refused-requires c κs = search needs
 
 returns : tie.Need-returns
-returns c m = same (c .before .before .before) m (c .refused .ensures) ∙ reset-short _ (c .before .if1 .taken)
+returns c m = same-answer _ m (c .refused .ensures) ∙ reset-short _ (c .before .if1 .taken)
 
 refused-requires-2 : tie.Need-refused-requires-2
 refused-requires-2 c κs = search needs
 
 returns-2 : tie.Need-returns-2
 returns-2 c m =
-    same (c .before .before .before .before .before) m (c .refused2 .ensures)
+    same-answer _ m (c .refused2 .ensures)
     ∙ reset-outside (given (c .before .before .before .before .before) m) (c .before .before .before .if1 .left) (λ g. omega arith)
 
 refused-requires-3 : tie.Need-refused-requires-3
@@ -36,7 +33,7 @@ refused-requires-3 c κs = search needs
 returns-3 : tie.Need-returns-3
 returns-3 c m =
     let start = c .before .before .before .before .before .before .before in
-    same start m (c .refused3 .ensures)
+    same-answer _ m (c .refused3 .ensures)
     ∙ reset-outside (given start m) (c .before .before .before .before .before .if1 .left) (λ g. omega arith)
 
 clear-requires : tie.Need-clear-requires

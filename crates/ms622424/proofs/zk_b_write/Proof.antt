@@ -1,16 +1,15 @@
 use Prim.Native.Nat.{ℕ}
-use mathlib.Core.Path.{_≡_, refl, sym, ap, _∙_}
+use mathlib.Core.Path.{_≡_, refl, sym, _∙_}
 use mathlib.Core.Bool.{true, false, _&&_}
 use mathlib.Core.List.{[], _∷_}
 use lib.Dec.{eqb}
 use borrow.Author.Tests.{ne-eqb}
 use Rattle.vocabulary.specs.Outcome.{Outcome}
 use Rattle.vocabulary.specs.Range.{below, fails}
-use Rattle.ms622424.specs.declared.Answer.{Answer}
-use Rattle.ms622424.specs.Ms622424.{Chip, chip, Sound, ranges, shortTable, outcome, registerAt, isPalette}
+use Rattle.ms622424.specs.Ms622424.{Chip, chip, Sound, ranges, shortTable, registerAt, isPalette}
 use Rattle.ms622424.specs.Ms622424.{writable, writeRefusals, written, write}
 use Rattle.ms622424.proofs.Standing.{sound}
-use Rattle.ms622424.proofs.Access.{outside-too, tried-first, write-does, write-no-access, write-read-mode, not-written}
+use Rattle.ms622424.proofs.Access.{same-answer, outside-too, tried-first, write-does, write-no-access, write-read-mode, not-written}
 use borrow.Author.Needs.{needs}
 use Rattle.ms622424.proofs.zk_b_write.Statement.{statement}
 use Rattle.ms622424.proofs.zk_b_write.Tie as tie
@@ -32,10 +31,6 @@ arm : (c : tie.Else1) (k : ℕ) {o : Outcome Chip} → c .before .before .before
     → o ≡ write (c .before .before .before .before .before .args .select) (c .before .before .before .before .before .args .byte) (given (c .before .before .before .before .before))
 arm c k = write-does _ (search needs) _ (known c) k _
 
--- the same answer leaves the same
-same : (c : tie.Start) {a b : Answer} → a ≡ b → outcome a (c .args .queue .now) (c .args .map .now) ≡ outcome b (c .args .queue .now) (c .args .map .now)
-same c e = rw e refl
-
 standing-tables-requires : tie.Need-standing-tables-requires
 standing-tables-requires c κs = search needs
 
@@ -50,7 +45,7 @@ unfolding write
 returns c =
     let start = c .before .before .before .before .before .before in
     let d = given start in
-    same start (c .refused .ensures)
+    same-answer _ _ (c .refused .ensures)
     ∙ tried-first (writeRefusals (start .args .select) (start .args .byte) d) d _ (shortTable d) (fails (ranges d)) _ refl
     (outside-too (below (start .args .byte) 256 ∷ []) (ranges d)) (c .before .before .standing-tables .ensures (d .map) refl)
     (c .before .if1 .taken)
@@ -85,7 +80,7 @@ same-length-2 c = search needs
 returns-2 : tie.Need-returns-2
 returns-2 c =
     let past = c .before .before .before .before in
-    same (past .before .before .before .before .before) (c .refused2 .ensures)
+    same-answer _ _ (c .refused2 .ensures)
     ∙ write-read-mode _ (search needs) _ (known past) _ (c .before .before .before .match .keys3) (c .before .if2 .taken)
 
 write-palette-requires : tie.Need-write-palette-requires
@@ -107,7 +102,7 @@ returns-3 : tie.Need-returns-3
 unfolding registerAt writable written
 returns-3 c =
     let past = c .before .before .before in
-    arm past 0 (c .before .before .match .keys1) refl refl (same (past .before .before .before .before .before) (c .accepted .ensures))
+    arm past 0 (c .before .before .match .keys1) refl refl (same-answer _ _ (c .accepted .ensures))
 
 same-length-4 : tie.Need-same-length-4
 same-length-4 c = search needs
@@ -116,7 +111,7 @@ returns-4 : tie.Need-returns-4
 unfolding registerAt writable written
 returns-4 c =
     let past = c .before .before .before in
-    arm past 1 (c .before .before .match .keys2) refl refl (same (past .before .before .before .before .before) (c .accepted2 .ensures))
+    arm past 1 (c .before .before .match .keys2) refl refl (same-answer _ _ (c .accepted2 .ensures))
 
 same-length-5 : tie.Need-same-length-5
 same-length-5 c = search needs
@@ -139,7 +134,7 @@ returns-6 : tie.Need-returns-6
 unfolding registerAt writable written
 returns-6 c =
     let past = c .before .before in
-    arm past 3 (c .before .match .keys4) refl refl (same (past .before .before .before .before .before) (c .accepted3 .ensures))
+    arm past 3 (c .before .match .keys4) refl refl (same-answer _ _ (c .accepted3 .ensures))
 
 same-length-8 : tie.Need-same-length-8
 same-length-8 c = search needs
@@ -148,7 +143,7 @@ returns-7 : tie.Need-returns-7
 unfolding registerAt writable written
 returns-7 c =
     let past = c .before .before in
-    arm past 7 (c .before .match .keys5) refl refl (same (past .before .before .before .before .before) (c .accepted4 .ensures))
+    arm past 7 (c .before .match .keys5) refl refl (same-answer _ _ (c .accepted4 .ensures))
 
 same-length-9 : tie.Need-same-length-9
 same-length-9 c = search needs
@@ -157,7 +152,7 @@ returns-8 : tie.Need-returns-8
 returns-8 c =
     let past = c .before .before in
     let rest = c .before .match .rest in
-    same (past .before .before .before .before .before) (c .refused3 .ensures)
+    same-answer _ _ (c .refused3 .ensures)
     ∙ write-no-access _ (search needs) _ (known past) _
     (not-written _ (rest .0 .0 .0 .0 .1) (rest .0 .0 .0 .1) (rest .0 .0 .1) (rest .0 .1) (rest .1))
 

@@ -1,4 +1,4 @@
-use mathlib.Core.Path.{_≡_, refl, sym, ap, _∙_}
+use mathlib.Core.Path.{_≡_, refl, sym, _∙_}
 use mathlib.Core.List.{List, [], _∷_}
 use mathlib.Core.Bool.{false}
 use Prim.Native.Nat.{ℕ}
@@ -6,9 +6,8 @@ use native.Mathlib.Omega.{arith}
 use Rattle.vocabulary.specs.Range.{below, fails, Holds}
 use Rattle.vocabulary.proofs.Range.{passes-holds}
 use Rattle.vocabulary.proofs.Refusal.{standing-clear}
-use Rattle.ms622424.specs.declared.Answer.{Answer}
-use Rattle.ms622424.specs.Ms622424.{Chip, chip, ranges, shortQueue, outcome, syncRefusals, sync}
-use Rattle.ms622424.proofs.Access.{outside-too, tried-first}
+use Rattle.ms622424.specs.Ms622424.{Chip, chip, ranges, shortQueue, syncRefusals, sync}
+use Rattle.ms622424.proofs.Access.{same-answer, outside-too, tried-first}
 use Rattle.ms622424_pixel.proofs.Outputs.{sync-outside, sync-does}
 use borrow.Author.Needs.{needs}
 use Rattle.ms622424_pixel.proofs.zk_b_sync.Statement.{statement}
@@ -25,10 +24,6 @@ known c m =
     let t = standing-clear _ _ (sym (c .before .standing-queue .ensures m) ∙ c .if1 .left) in
     (t .0, passes-holds _ (t .1))
 
--- the same answer leaves the same
-same : (c : tie.Start) (m : List ℕ) {a b : Answer} → a ≡ b → outcome a (c .args .queue .now) m ≡ outcome b (c .args .queue .now) m
-same c m e = rw e refl
-
 standing-queue-requires : tie.Need-standing-queue-requires
 standing-queue-requires c κs = search needs
 
@@ -40,7 +35,7 @@ unfolding sync
 returns c m =
     let start = c .before .before .before .before in
     let d = given start m in
-    same start m (c .refused .ensures)
+    same-answer _ m (c .refused .ensures)
     ∙ tried-first (syncRefusals (start .args .signals) d) d _ (shortQueue d) (fails (ranges d)) _ refl
     (outside-too (below (start .args .signals) 16 ∷ []) (ranges d)) (c .before .before .standing-queue .ensures m)
     (c .before .if1 .taken)
@@ -51,7 +46,7 @@ refused-requires-2 c κs = search needs
 returns-2 : tie.Need-returns-2
 returns-2 c m =
     let past = c .before .before in
-    same (past .before .before .before) m (c .refused2 .ensures) ∙ sync-outside _ _ (known past m .0) (omega arith)
+    same-answer _ m (c .refused2 .ensures) ∙ sync-outside _ _ (known past m .0) (omega arith)
 
 piped-requires : tie.Need-piped-requires
 piped-requires c κs = omega (arith, known (c .before) [])
@@ -63,7 +58,7 @@ returns-3 : tie.Need-returns-3
 returns-3 c m =
     let past = c .before .before .before in
     let k = known past m in
-    same (past .before .before .before) m (c .accepted .ensures)
+    same-answer _ m (c .accepted .ensures)
     ∙ sync-does _ _ (k .0) (omega arith) (k .1) _ (c .before .piped .ensures)
 
 pub zk-b-sync-spec : {M : Type 1} → statement M

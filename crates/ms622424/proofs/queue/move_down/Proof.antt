@@ -1,8 +1,7 @@
-use Prim.Native.Nat.{ℕ, _+_, _-_, _≤_}
-use mathlib.Core.Path.{_≡_, refl, sym, ap, _∙_}
-use mathlib.Core.List.{List}
+use Prim.Native.Nat.{_-_, _≤_}
+use mathlib.Core.Path.{_≡_, refl}
 use native.Mathlib.Omega.{arith}
-use lib.ListN.{length, getD, drop, set, length-set, length-drop}
+use lib.ListN.{length, drop, length-set, length-drop}
 use borrow.Author.Needs.{needs}
 use Rattle.ms622424.proofs.Places.{front, move-next}
 use Rattle.ms622424.proofs.queue.move_down.Statement.{statement}
