@@ -19,7 +19,8 @@ use Rattle.ms622424.specs.declared.Answer.{Answer}
 use Rattle.ms622424.specs.declared.State.{State}
 use Rattle.ms622424.specs.Ms622424.{Chip, chip, outcome, ranges, shortTable, Sound, registerAt, isPalette}
 use Rattle.ms622424.specs.Ms622424.{Colour, red, green, blue, selected, stepped, withState, complete}
-use Rattle.ms622424.specs.Ms622424.{Moves, made, roomMade, latched, palette, written, writable, writeRefusals, write}
+use Rattle.ms622424.specs.Ms622424.{Moves, made, roomMade, latched, palette, written, writable}
+use Rattle.ms622424.specs.Ms622424.{writeRefusals, write}
 use Rattle.ms622424.specs.Ms622424.{moves, blankRefusals, blank}
 use Rattle.ms622424.specs.Ms622424.{shortQueue, keptRanges, resetRefusals, fresh, reset}
 use Rattle.ms622424.specs.Ms622424.{answers, readable, buffer, bufferByte, bufferStepped, readRefusals, read}
@@ -59,7 +60,8 @@ tried-first rows c done short outside r e f g h =
 -- past it, a call is refused by the first row that is due, or does what it does
 module _ (rows : List Row) (c : Chip) (done : Outcome Chip) where
   pub stops : (before : List Refusal) (r : Refusal) (m : ℕ) (after : List Refusal) → before ++ (r ∷ after) ≡ order
-      → number r ≡ suc m → None (due rows) before → due rows r ≡ true → refusing (suc m) 0 c ≡ answered (refusalOf rows) c done
+      → number r ≡ suc m → None (due rows) before → due rows r ≡ true → refusing (suc m) 0 c
+      ≡ answered (refusalOf rows) c done
   stops before r m after split e h t = sym (refused-as m 0 c done (refusal-is rows before r after split h t ∙ e))
 
   pub goes-on : Clear rows → done ≡ answered (refusalOf rows) c done
@@ -88,7 +90,8 @@ latched-counter blue byte c = refl
 
 -- a palette write makes room, latches and steps
 pub palette-written : (n byte : ℕ) (after c : Chip) (s : State) (q : List ℕ) → made n after ≡ roomMade c
-    → chip s q (after .map) ≡ latched (selected (c .state .counter)) byte after → after .state .counter ≡ c .state .counter
+    → chip s q (after .map) ≡ latched (selected (c .state .counter)) byte after → after .state .counter
+    ≡ c .state .counter
     → accepting 0 n (chip (stepped (selected (s .counter)) s) q (after .map)) ≡ written palette byte c
 unfolding written
 palette-written n byte after c s q e l same =
@@ -97,7 +100,8 @@ palette-written n byte after c s q e l same =
     ap (λ (d : Chip). d .state .counter) l ∙ (latched-counter k byte after ∙ same) in
     ap (λ (x : ℕ). accepting 0 n (chip (stepped (selected x) s) q (after .map))) counter
     ∙ (ap (λ (d : Chip). accepting 0 n (withState (stepped k (d .state)) d)) l
-    ∙ ap (λ (m : Moves). let d = latched k byte (m .after) in accepting 0 (m .count) (withState (stepped k (d .state)) d)) e)
+    ∙ ap (λ (m : Moves). let d = latched k byte (m .after) in
+    accepting 0 (m .count) (withState (stepped k (d .state)) d)) e)
 
 module _ (byte : ℕ) (small : byte < 256) (c : Chip) (h : Sound c) where
   inside : fails (below byte 256 ∷ ranges c) ≡ false
@@ -105,10 +109,12 @@ module _ (byte : ℕ) (small : byte < 256) (c : Chip) (h : Sound c) where
 
   -- a register that is written
   pub write-does : (k select : ℕ) {o : Outcome Chip} → select ≡ k → writable (registerAt k) ≡ true
-      → (isPalette (registerAt k) && eqb (c .state .readmode) 1) ≡ false → o ≡ written (registerAt k) byte c → o ≡ write select byte c
+      → (isPalette (registerAt k) && eqb (c .state .readmode) 1) ≡ false → o ≡ written (registerAt k) byte c → o
+      ≡ write select byte c
   unfolding write
   write-does k select e w p d =
-      rw e (d ∙ goes-on (writeRefusals k byte c) c (written (registerAt k) byte c) (lengths-right c h, (inside, (ap not w, (p, tt)))))
+      rw e (d ∙ goes-on (writeRefusals k byte c) c (written (registerAt k) byte c)
+      (lengths-right c h, (inside, (ap not w, (p, tt)))))
 
   -- one that is not
   pub write-no-access : (select : ℕ) → writable (registerAt select) ≡ false → refusing 3 0 c ≡ write select byte c
@@ -174,11 +180,13 @@ module _ (c : Chip) (h : Sound c) where
   unfolding read registerAt readable
   read-waiting select e f g =
       rw e
-      (stops (readRefusals 2 c) c _ (lentLength ∷ outOfRange ∷ noAccess ∷ noIndex ∷ readMode ∷ []) stillWaiting 5 _ refl refl
+      (stops (readRefusals 2 c) c _ (lentLength ∷ outOfRange ∷ noAccess ∷ noIndex ∷ readMode ∷ []) stillWaiting 5 _
+      refl refl
       (lengths-right c h, (ranges-right c h, (refl, (refl, (ne-eqb _ 0 f, tt))))) (ap not (ne-eqb _ 0 g)))
 
   -- the buffer at red and at green
-  pub read-buffer : (select : ℕ) (k : Colour) → select ≡ 5 → selected (c .state .counter) ≡ k → readable buffer k ≡ true
+  pub read-buffer : (select : ℕ) (k : Colour) → select ≡ 5 → selected (c .state .counter) ≡ k → readable buffer k
+      ≡ true
       → accepting (bufferByte k (c .state)) 0 (withState (bufferStepped k (c .state)) c) ≡ read select c
   unfolding registerAt answers
   read-buffer select k e f r =
@@ -193,7 +201,8 @@ unfolding registerAt readable
 buffer-at-blue select counter e f = rw (e, f)
 
 pub not-read : (select : ℕ) (k : Colour) → (select ≡ 0 → ⊥) → (select ≡ 1 → ⊥) → (select ≡ 2 → ⊥) → (select ≡ 3 → ⊥)
-    → (select ≡ 4 → ⊥) → (select ≡ 5 → ⊥) → (select ≡ 6 → ⊥) → (select ≡ 7 → ⊥) → readable (registerAt select) k ≡ false
+    → (select ≡ 4 → ⊥) → (select ≡ 5 → ⊥) → (select ≡ 6 → ⊥) → (select ≡ 7 → ⊥) → readable (registerAt select) k
+    ≡ false
 unfolding registerAt readable
 not-read zero k a b d e f g i j = absurd (a refl)
 not-read (suc zero) k a b d e f g i j = absurd (b refl)
@@ -234,7 +243,8 @@ module _ (c : Chip) where
     unfolding reset
     reset-outside h = stops (resetRefusals c) c _ (lentLength ∷ []) outOfRange 8 _ refl refl (long, tt) (not-fails _ h)
 
-    pub reset-does : Holds (keptRanges (c .state)) → (q : List ℕ) → q ≡ take 0 (c .queue) ++ replicate (64 - 0) 0 ++ drop 64 (c .queue)
+    pub reset-does : Holds (keptRanges (c .state)) → (q : List ℕ) → q
+        ≡ take 0 (c .queue) ++ replicate (64 - 0) 0 ++ drop 64 (c .queue)
         → accepting 0 0 (chip (fresh (c .state)) q (c .map)) ≡ reset c
     unfolding reset
     reset-does h q e =

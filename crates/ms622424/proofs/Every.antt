@@ -59,7 +59,8 @@ or-below k a b =
     let left = and-le-l a b in
     let right = and-le-r a b in
     agree _ _
-    (λ e. let h = ltb-true (bitOr a b) (2 ^ k) e in pair (lt-ltb a (2 ^ k) (omega arith)) (lt-ltb b (2 ^ k) (omega arith)))
+    (λ e. let h = ltb-true (bitOr a b) (2 ^ k) e in
+    pair (lt-ltb a (2 ^ k) (omega arith)) (lt-ltb b (2 ^ k) (omega arith)))
     (λ e.
     let t = both (ltb a (2 ^ k)) (ltb b (2 ^ k)) e in
     lt-ltb _ _ (or-lt k a b (ltb-true a (2 ^ k) (t .0)) (ltb-true b (2 ^ k) (t .1))))
@@ -72,7 +73,8 @@ gather-next k bits from i l g h e =
     let d = drop from l in
     let next : i + 1 - from ≡ suc (i - from) = omega arith in
     let inside : i - from < length d = simp length-drop (omega arith) in
-    let same : getD d (i - from) 0 ≡ getD l i 0 = getD-drop from l (i - from) 0 ∙ ap (λ (n : ℕ). getD l n 0) (omega arith) in
+    let same : getD d (i - from) 0 ≡ getD l i 0 = getD-drop from l (i - from) 0
+    ∙ ap (λ (n : ℕ). getD l n 0) (omega arith) in
     rw (next, take-suc d (i - from) 0 inside, every-append, every-one, ← e, same) (or-below k bits (getD l i 0))
 
 pub gather-none : (k : ℕ) → ltb 0 (2 ^ k) ≡ every (λ (n : ℕ). ltb n (2 ^ k)) []
@@ -114,7 +116,8 @@ module _ (q : List ℕ) (w bits : ℕ) where
       → ltb bits (2 ^ 37) ≡ every inMap (held (take w q))
   waiting-bits e = let z : w - 0 ≡ w = omega arith in rw z at e ∙ sym (held-in-map (take w q))
 
-  pub unused-bits : (n : ℕ) → length q ≡ n → ltb bits (2 ^ 0) ≡ every (λ (n : ℕ). ltb n (2 ^ 0)) (take (n - w) (drop w q))
+  pub unused-bits : (n : ℕ) → length q ≡ n → ltb bits (2 ^ 0)
+      ≡ every (λ (n : ℕ). ltb n (2 ^ 0)) (take (n - w) (drop w q))
       → eqb bits 0 ≡ every isZero (drop w q)
   unused-bits n l e =
       let t = take-all (n - w) (drop w q) (simp length-drop (omega arith)) in

@@ -40,7 +40,8 @@ move-next q k i h =
     let d = drop k q in
     let long = length-drop k q in
     let same : getD (front i d q) (k + i) 0 ≡ getD d i 0 =
-    rw (add-comm k i) (front-rest d q i (omega arith) k) ∙ (ap (λ (n : ℕ). getD q n 0) (add-comm i k) ∙ sym (getD-drop k q i 0)) in
+    rw (add-comm k i) (front-rest d q i (omega arith) k)
+    ∙ (ap (λ (n : ℕ). getD q n 0) (add-comm i k) ∙ sym (getD-drop k q i 0)) in
     rw same (front-next d q i (omega arith) (omega arith))
 
 pub front-none : (l q : List ℕ) (i : ℕ) → take i l ≡ take i q → q ≡ front i l q

@@ -51,7 +51,8 @@ unfolding waitingColours
 queue-decides s q m a c r g d e w v b =
     let bs = ranges (chip s q m) in
     agree _ (meets bs)
-    (λ t. let p = both (every inMap (held (take (s .waiting) q))) _ t in holds-meets bs (a, (c, (r, (g, (d, (e, (w, (p .0, (p .1, (v, (b, tt))))))))))))
+    (λ t. let p = both (every inMap (held (take (s .waiting) q))) _ t in
+    holds-meets bs (a, (c, (r, (g, (d, (e, (w, (p .0, (p .1, (v, (b, tt))))))))))))
     (λ t. let h = meets-holds bs t in pair (h .1 .1 .1 .1 .1 .1 .1 .0) (h .1 .1 .1 .1 .1 .1 .1 .1 .0))
 
 -- a waiting entry's place is below 2 ^ 37
@@ -61,10 +62,12 @@ place-below c h i l =
     let w = c .state .waiting in
     let q = c .queue in
     let long : length (take w q) ≡ w = length-take-le w q (omega arith) in
-    let all : every (λ (n : ℕ). ltb n (2 ^ 37)) (take w q) ≡ true = sym (held-in-map (take w q)) ∙ h .2 .1 .1 .1 .1 .1 .1 .1 .0 in
+    let all : every (λ (n : ℕ). ltb n (2 ^ 37)) (take w q) ≡ true = sym (held-in-map (take w q))
+    ∙ h .2 .1 .1 .1 .1 .1 .1 .1 .0 in
     let one = every-at (λ (n : ℕ). ltb n (2 ^ 37)) (take w q) 0 all i (omega arith) in
     rw (getD-take w q i 0 l) at (ltb-true (getD (take w q) i 0) (2 ^ 37) one)
 
 -- and an unused one is zero
-pub unused-zero : (c : Chip) → Sound c → drop (c .state .waiting) (c .queue) ≡ replicate (length (drop (c .state .waiting) (c .queue))) 0
+pub unused-zero : (c : Chip) → Sound c → drop (c .state .waiting) (c .queue)
+    ≡ replicate (length (drop (c .state .waiting) (c .queue))) 0
 unused-zero c h = zeros _ (h .2 .1 .1 .1 .1 .1 .1 .1 .1 .0)

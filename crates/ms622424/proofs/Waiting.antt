@@ -13,7 +13,8 @@ use lib.Seq.{take-suc-set, take-take, drop-append-le, drop-drop, getD-drop, take
 use Rattle.vocabulary.proofs.Choice.{cases, picks-first, picks-second}
 use Rattle.ms622424.specs.declared.State.{State}
 use Rattle.ms622424.specs.Ms622424.{Chip, chip, queued, Entry, packed, unpacked, held, waitingColours, Sound}
-use Rattle.ms622424.specs.Ms622424.{completed, complete, stored, allStored, moveOldest, Moves, made, oneSlot, moves}
+use Rattle.ms622424.specs.Ms622424.{completed, complete, stored, allStored, moveOldest, Moves, made, oneSlot}
+use Rattle.ms622424.specs.Ms622424.{moves}
 use Rattle.ms622424.proofs.Places.{front, zeroed, closed-up, stored-next}
 use Rattle.ms622424.proofs.Standing.{unused-zero}
 
@@ -57,7 +58,8 @@ complete-waiting byte c h hr hg hb =
     let n = packed (completed s byte) in
     rw (add-one, take-suc-set (c .queue) (s .waiting) n h)
     (map-append unpacked (take (s .waiting) (c .queue)) (n ∷ [])
-    ∙ ap (λ (e : Entry). waitingColours c ++ (e ∷ [])) (unpacked-packed (s .address) (s .red) (s .green) byte hr hg hb))
+    ∙ ap (λ (e : Entry). waitingColours c ++ (e ∷ []))
+    (unpacked-packed (s .address) (s .red) (s .green) byte hr hg hb))
 
 -- THE MOVES: k of them, of a queue with at least so many waiting
 abbrev pub movesOf : ℕ → Chip → Moves
@@ -90,7 +92,8 @@ module _ (c : Chip) (long : c .state .waiting ≤ length (c .queue)) where
       ∙ (getD-drop k q 0 0 ∙ ap (λ (n : ℕ). getD q n 0) (add-zero k))
 
   one-stored : (k : ℕ) → k < length (c .queue)
-      → stored (unpacked (getD (drop k (c .queue) ++ replicate k 0) 0 0)) (allStored (held (take k (c .queue))) (c .map))
+      → stored (unpacked (getD (drop k (c .queue) ++ replicate k 0) 0 0))
+      (allStored (held (take k (c .queue))) (c .map))
       ≡ allStored (held (take (k + 1) (c .queue))) (c .map)
   unfolding allStored
   one-stored k h = rw (oldest-left k h) (stored-next (c .queue) k (c .map) h)
@@ -144,7 +147,8 @@ module _ (c : Chip) (long : c .state .waiting ≤ length (c .queue)) where
       let k = min slots w in
       let l : w - k ≤ length (drop k q) = simp length-drop (omega arith) in
       let e : k + (w - k) ≡ w = omega arith in
-      let t : take (w - k) (drop k q) ≡ drop k (take w q) = take-drop k (w - k) q ∙ ap (λ (n : ℕ). drop k (take n q)) e in
+      let t : take (w - k) (drop k q) ≡ drop k (take w q) = take-drop k (w - k) q
+      ∙ ap (λ (n : ℕ). drop k (take n q)) e in
       ap (λ (m : Moves). waitingColours (m .after)) (moves-least slots)
       ∙ (ap held (take-append-le (w - k) (drop k q) (replicate k 0) l ∙ t) ∙ map-drop unpacked k (take w q))
 

@@ -8,7 +8,8 @@ ghost use Prim.Native.Nat.{ℕ, _+_, _*_, _<_, _≤_};
 ghost use lib.ListN.{length, getD};
 ghost use Rattle.vocabulary.specs.Choice.{pick};
 ghost use Rattle.ms622424.specs.Ms622424.{Sound, accept, refuse, chip, outcome};
-ghost use Rattle.ms622424.specs.Ms622424.{selected, stepped, palette, statusByte, written, write, read, blank, reset};
+ghost use Rattle.ms622424.specs.Ms622424.{selected, stepped, palette, statusByte, written, write, read};
+ghost use Rattle.ms622424.specs.Ms622424.{blank, reset};
 
 #[repr(C)]
 pub struct State {
@@ -89,7 +90,8 @@ fn step(s: State) -> State
 // A write to the Color Palette Buffer that is not refused.
 fn write_palette(s: State, byte: u8, queue: &mut [u64], map: &mut [u8]) -> Answer
     requires { ⌜ Sound (chip s (now queue) (now map)) ⌝ }
-    ensures { λ r. ⌜ outcome r (now (queue .exit)) (now (map .exit)) ≡ written palette byte (chip s (now (queue .entry)) (now (map .entry))) ⌝ }
+    ensures { λ r. ⌜ outcome r (now (queue .exit)) (now (map .exit))
+        ≡ written palette byte (chip s (now (queue .entry)) (now (map .entry))) ⌝ }
 {
     let moved = queue::make_room(s, queue, map);
     let mut n = s;
@@ -163,7 +165,8 @@ fn status(s: State) -> u8
 // A read of the Color Palette that is not refused.
 fn read_palette(s: State, map: &[u8]) -> Answer
     requires { ⌜ (length (now map) ≡ 24576) × (s .address < 8192) × (s .counter < 3) ⌝ }
-    ensures { λ r. ⌜ r ≡ accept (getD (now (map .entry)) (3 * s .address + s .counter) 0) 0 (stepped (selected (s .counter)) s) ⌝ }
+    ensures { λ r. ⌜ r ≡ accept (getD (now (map .entry)) (3 * s .address + s .counter) 0) 0
+        (stepped (selected (s .counter)) s) ⌝ }
 {
     let at = 3 * (s.address as usize) + (s.counter as usize);
     accepted(map[at], 0, step(s))
@@ -171,7 +174,8 @@ fn read_palette(s: State, map: &[u8]) -> Answer
 
 #[no_mangle]
 pub extern "C" fn zk_b_read(s: State, select: u8, queue: &[u64], map: &[u8]) -> Answer
-    ensures { λ r. ⌜ outcome r (now (queue .entry)) (now (map .entry)) ≡ read select (chip s (now (queue .entry)) (now (map .entry))) ⌝ }
+    ensures { λ r. ⌜ outcome r (now (queue .entry)) (now (map .entry))
+        ≡ read select (chip s (now (queue .entry)) (now (map .entry))) ⌝ }
 {
     let refusal = range::standing_tables(s, queue, map.len());
     if refusal != 0 {
@@ -212,7 +216,8 @@ pub extern "C" fn zk_b_read(s: State, select: u8, queue: &[u64], map: &[u8]) -> 
 
 #[no_mangle]
 pub extern "C" fn zk_b_blank(s: State, slots: u32, queue: &mut [u64], map: &mut [u8]) -> Answer
-    ensures { λ r. ⌜ outcome r (now (queue .exit)) (now (map .exit)) ≡ blank slots (chip s (now (queue .entry)) (now (map .entry))) ⌝ }
+    ensures { λ r. ⌜ outcome r (now (queue .exit)) (now (map .exit))
+        ≡ blank slots (chip s (now (queue .entry)) (now (map .entry))) ⌝ }
 {
     let refusal = range::standing_tables(s, queue, map.len());
     if refusal != 0 {

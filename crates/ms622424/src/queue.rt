@@ -39,7 +39,8 @@ fn store_oldest(waiting: usize, slots: usize, queue: &[u64], map: &mut [u8]) -> 
 // The entries behind the first `gone` move down to the first place.
 fn move_down(queue: &mut [u64], waiting: usize, gone: usize)
     requires { ⌜ (gone ≤ waiting) × (waiting ≤ length (now queue)) ⌝ }
-    ensures { λ _. ⌜ now (queue .exit) ≡ take (waiting - gone) (drop gone (now (queue .entry))) ++ drop (waiting - gone) (now (queue .entry)) ⌝ }
+    ensures { λ _. ⌜ now (queue .exit)
+        ≡ take (waiting - gone) (drop gone (now (queue .entry))) ++ drop (waiting - gone) (now (queue .entry)) ⌝ }
 {
     let left = waiting - gone;
     let mut i = 0;
@@ -52,7 +53,8 @@ fn move_down(queue: &mut [u64], waiting: usize, gone: usize)
 // The places from `from` to before `to` are zero.
 pub(crate) fn clear(queue: &mut [u64], from: usize, to: usize)
     requires { ⌜ (from ≤ to) × (to ≤ length (now queue)) ⌝ }
-    ensures { λ _. ⌜ now (queue .exit) ≡ take from (now (queue .entry)) ++ replicate (to - from) 0 ++ drop to (now (queue .entry)) ⌝ }
+    ensures { λ _. ⌜ now (queue .exit)
+        ≡ take from (now (queue .entry)) ++ replicate (to - from) 0 ++ drop to (now (queue .entry)) ⌝ }
 {
     let mut i = from;
     while i < to {
@@ -64,7 +66,9 @@ pub(crate) fn clear(queue: &mut [u64], from: usize, to: usize)
 // The moves of `slots` slots: into the map, and the queue closed up.
 pub(crate) fn transfer(s: State, slots: u32, queue: &mut [u64], map: &mut [u8]) -> u8
     requires { ⌜ Sound (chip s (now queue) (now map)) ⌝ }
-    ensures { λ r. ⌜ (r ≡ min slots (s .waiting)) × (made r (chip (queued s (s .waiting - r)) (now (queue .exit)) (now (map .exit))) ≡ moves slots (chip s (now (queue .entry)) (now (map .entry)))) ⌝ }
+    ensures { λ r. ⌜ (r ≡ min slots (s .waiting))
+        × (made r (chip (queued s (s .waiting - r)) (now (queue .exit)) (now (map .exit)))
+        ≡ moves slots (chip s (now (queue .entry)) (now (map .entry)))) ⌝ }
 {
     let waiting = s.waiting as usize;
     let moved = store_oldest(waiting, slots as usize, queue, map);
@@ -76,7 +80,9 @@ pub(crate) fn transfer(s: State, slots: u32, queue: &mut [u64], map: &mut [u8]) 
 // A full queue makes room for four entries: how many it moved.
 pub(crate) fn make_room(s: State, queue: &mut [u64], map: &mut [u8]) -> u8
     requires { ⌜ Sound (chip s (now queue) (now map)) ⌝ }
-    ensures { λ r. ⌜ (r ≤ s .waiting) × (s .waiting - r < 64) × (made r (chip (queued s (s .waiting - r)) (now (queue .exit)) (now (map .exit))) ≡ roomMade (chip s (now (queue .entry)) (now (map .entry)))) ⌝ }
+    ensures { λ r. ⌜ (r ≤ s .waiting) × (s .waiting - r < 64)
+        × (made r (chip (queued s (s .waiting - r)) (now (queue .exit)) (now (map .exit)))
+        ≡ roomMade (chip s (now (queue .entry)) (now (map .entry)))) ⌝ }
 {
     if s.waiting == 64 {
         return transfer(s, 4, queue, map);
@@ -94,7 +100,8 @@ fn entry(s: State, blue: u8) -> u64
 // Red and green go to the buffer; blue completes, and its entry goes to the queue's end.
 pub(crate) fn latch(s: State, byte: u8, queue: &mut [u64]) -> State
     requires { ⌜ (length (now queue) ≡ 64) × (s .waiting < 64) ⌝ }
-    ensures { λ r. ⌜ ((m : List ℕ) → chip r (now (queue .exit)) m ≡ latched (selected (s .counter)) byte (chip s (now (queue .entry)) m)) ⌝ }
+    ensures { λ r. ⌜ ((m : List ℕ) → chip r (now (queue .exit)) m
+        ≡ latched (selected (s .counter)) byte (chip s (now (queue .entry)) m)) ⌝ }
 {
     let counter = s.counter;
     let mut n = s;

@@ -12,7 +12,8 @@ use Rattle.vocabulary.specs.Refusal.{lentLength, outOfRange}
 use Rattle.vocabulary.specs.Outcome.{accepting, refusing}
 use Rattle.vocabulary.proofs.Range.{holds-passes, not-fails}
 use Rattle.vocabulary.proofs.Table.{table-rule}
-use Rattle.ms622424.specs.Ms622424.{Chip, Sound, ranges, shortQueue, Colour, red, green, blue, pixelByte, entryShown, gunShown}
+use Rattle.ms622424.specs.Ms622424.{Chip, Sound, ranges, shortQueue, Colour, red, green, blue, pixelByte}
+use Rattle.ms622424.specs.Ms622424.{entryShown, gunShown}
 use Rattle.ms622424.specs.Ms622424.{pout, pixelRefusals, pixel, pipeOut, syncRefusals, sync}
 use Rattle.ms622424.proofs.Access.{stops, goes-on, lengths-right}
 
@@ -42,7 +43,8 @@ module _ (mode word : ℕ) (c : Chip) (h : Sound c) where
       ≡ pixel mode word c
   unfolding pixel gunShown
   pixel-does m w r g b er eg eb =
-      ap (λ (n : ℕ). accepting (pout (getD (c .map) n 0) (getD (c .map) (3 * g + 1) 0) (getD (c .map) (3 * b + 2) 0)) 0 c)
+      ap (λ (n : ℕ). accepting
+      (pout (getD (c .map) n 0) (getD (c .map) (3 * g + 1) 0) (getD (c .map) (3 * b + 2) 0)) 0 c)
       (sym (add-zero (3 * r)))
       ∙ (rw (er, eg, eb) refl
       ∙ goes-on (pixelRefusals mode word c) c _ (lengths-right c h, (holds-passes _ (m, (w, h .2)), tt)))
@@ -70,7 +72,8 @@ module _ (signals : ℕ) (c : Chip) (l : shortQueue c ≡ false) where
   pub sync-outside : 16 ≤ signals → refusing 9 0 c ≡ sync signals c
   unfolding sync
   sync-outside h =
-      stops (syncRefusals signals c) c _ (lentLength ∷ []) outOfRange 8 _ refl refl (l, tt) (not-fails _ (λ g. omega arith))
+      stops (syncRefusals signals c) c _ (lentLength ∷ []) outOfRange 8 _ refl refl (l, tt)
+      (not-fails _ (λ g. omega arith))
 
   pub sync-does : signals < 16 → Holds (ranges c) → (v : ℕ) → v ≡ pipeOut (c .state .command) signals
       → accepting v 0 c ≡ sync signals c

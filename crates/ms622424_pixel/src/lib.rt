@@ -9,7 +9,8 @@ use ms622424::State;
 ghost use mathlib.Core.Path.{_≡_};
 ghost use mathlib.Core.List.{List};
 ghost use Prim.Native.Nat.{ℕ, _<_};
-ghost use Rattle.ms622424.specs.Ms622424.{chip, outcome, showing, dark, Colour, pixelByte, entryShown, pixel, pipeOut, sync};
+ghost use Rattle.ms622424.specs.Ms622424.{chip, outcome, showing, dark, Colour, pixelByte, entryShown, pixel};
+ghost use Rattle.ms622424.specs.Ms622424.{pipeOut, sync};
 
 // The entry that a gun shows, of which `byte` is the gun's own byte of the pixel.
 fn entry(mode: u8, word: u32, byte: u32) -> usize
@@ -37,7 +38,8 @@ fn refused(refusal: u8) -> Shown
 
 #[no_mangle]
 pub extern "C" fn zk_b_pixel(s: State, mode: u8, word: u32, queue: &[u64], map: &[u8]) -> Shown
-    ensures { λ r. ⌜ showing r (chip s (now (queue .entry)) (now (map .entry))) ≡ pixel mode word (chip s (now (queue .entry)) (now (map .entry))) ⌝ }
+    ensures { λ r. ⌜ showing r (chip s (now (queue .entry)) (now (map .entry)))
+        ≡ pixel mode word (chip s (now (queue .entry)) (now (map .entry))) ⌝ }
 {
     let refusal = ms622424::range::standing_tables(s, queue, map.len());
     if refusal != 0 {
@@ -71,7 +73,8 @@ fn piped(command: u8, signals: u8) -> u8
 // It is lent no map, since it reads none.
 #[no_mangle]
 pub extern "C" fn zk_b_sync(s: State, signals: u8, queue: &[u64]) -> Answer
-    ensures { λ r. ⌜ ((m : List ℕ) → outcome r (now (queue .entry)) m ≡ sync signals (chip s (now (queue .entry)) m)) ⌝ }
+    ensures { λ r. ⌜ ((m : List ℕ) → outcome r (now (queue .entry)) m
+        ≡ sync signals (chip s (now (queue .entry)) m)) ⌝ }
 {
     let refusal = ms622424::range::standing_queue(s, queue);
     if refusal != 0 {

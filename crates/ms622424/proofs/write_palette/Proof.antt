@@ -47,7 +47,8 @@ returns c =
     let after = chip (queued (a .s) (a .s .waiting - moved .result)) (moved .last .1 .0) map in
     ap (λ (r : Answer). outcome r queue map) (c .accepted .ensures)
     ∙ (ap (λ (s : State). outcome (accept 0 (moved .result) s) queue map) (c .before .step .ensures)
-    ∙ palette-written (moved .result) (a .byte) after (chip (a .s) (a .queue .now) (a .map .now)) (latch .latch .result) queue
+    ∙ palette-written (moved .result) (a .byte) after (chip (a .s) (a .queue .now) (a .map .now))
+    (latch .latch .result) queue
     (moved .ensures .2) (latch .latch .ensures map) refl)
 
 pub write-palette-spec : {M : Type 1} → statement M

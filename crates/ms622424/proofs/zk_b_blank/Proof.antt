@@ -35,7 +35,8 @@ returns c =
     let d = given start in
     same-answer _ _ (c .refused .ensures)
     ∙ tried-first (blankRefusals (start .args .slots) d) d _ (shortTable d) (fails (ranges d)) _ refl
-    (outside-too (below (start .args .slots) 65536 ∷ []) (ranges d)) (c .before .before .standing-tables .ensures (d .map) refl)
+    (outside-too (below (start .args .slots) 65536 ∷ []) (ranges d))
+    (c .before .before .standing-tables .ensures (d .map) refl)
     (c .before .if1 .taken)
 
 refused-requires-2 : tie.Need-refused-requires-2

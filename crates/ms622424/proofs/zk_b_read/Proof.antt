@@ -10,7 +10,8 @@ use Rattle.ms622424.specs.Ms622424.{Chip, chip, Sound, ranges, shortTabl
 use Rattle.ms622424.specs.Ms622424.{red, green, selected, stepped, readable, readRefusals, answers, read}
 use Rattle.ms622424.specs.Ms622424.{bufferByte, bufferStepped}
 use Rattle.ms622424.proofs.Standing.{sound}
-use Rattle.ms622424.proofs.Access.{same-answer, tried-first, read-does, read-no-access, read-outside-mode, read-waiting, read-buffer}
+use Rattle.ms622424.proofs.Access.{same-answer, tried-first, read-does, read-no-access, read-outside-mode}
+use Rattle.ms622424.proofs.Access.{read-waiting, read-buffer}
 use Rattle.ms622424.proofs.Access.{is-red, is-green, is-blue, buffer-at-blue, not-read}
 use borrow.Author.Needs.{needs}
 use Rattle.ms622424.proofs.zk_b_read.Statement.{statement}
@@ -77,7 +78,8 @@ returns-3 : tie.Need-returns-3
 returns-3 c =
     let past = c .before .before .before .before .before .before in
     same-answer _ _ (c .refused3 .ensures)
-    ∙ read-waiting _ (known past) _ (c .before .before .before .before .before .match .keys3) (c .before .before .before .if2 .left)
+    ∙ read-waiting _ (known past) _ (c .before .before .before .before .before .match .keys3)
+    (c .before .before .before .if2 .left)
     (c .before .if3 .taken)
 
 read-palette-requires : tie.Need-read-palette-requires
@@ -134,7 +136,8 @@ returns-6 : tie.Need-returns-6
 unfolding registerAt readable answers
 returns-6 c =
     let past = c .before .before .before .before .before .before in
-    arm past 2 (c .before .before .before .before .before .match .keys3) refl (ne-eqb _ 0 (c .before .before .before .if2 .left))
+    arm past 2 (c .before .before .before .before .before .match .keys3) refl
+    (ne-eqb _ 0 (c .before .before .before .if2 .left))
     (ap not (eq-eqb _ 0 (c .before .if3 .left))) (same-answer _ _ (c .read-palette .ensures))
 
 returns-7 : tie.Need-returns-7
@@ -147,7 +150,9 @@ returns-8 : tie.Need-returns-8
 unfolding registerAt readable answers
 returns-8 c =
     let past = c .before .before .before in
-    arm past 4 (c .before .before .match .keys5) refl refl refl (same-answer _ _ (c .accepted4 .ensures ∙ ap (λ (n : ℕ). accept n 0 (past .before .before .before .before .args .s)) (c .before .status .ensures)))
+    arm past 4 (c .before .before .match .keys5) refl refl refl
+    (same-answer _ _ (c .accepted4 .ensures
+    ∙ ap (λ (n : ℕ). accept n 0 (past .before .before .before .before .args .s)) (c .before .status .ensures)))
 
 returns-9 : tie.Need-returns-9
 unfolding readable bufferByte bufferStepped stepped
@@ -189,7 +194,8 @@ returns-14 c =
     let rest = c .before .match .rest in
     same-answer _ _ (c .refused5 .ensures)
     ∙ read-no-access _ (known past) _
-    (not-read _ _ (rest .0 .0 .0 .0 .0 .0 .0 .1) (rest .0 .0 .0 .0 .0 .0 .1) (rest .0 .0 .0 .0 .0 .1) (rest .0 .0 .0 .0 .1)
+    (not-read _ _ (rest .0 .0 .0 .0 .0 .0 .0 .1) (rest .0 .0 .0 .0 .0 .0 .1) (rest .0 .0 .0 .0 .0 .1)
+    (rest .0 .0 .0 .0 .1)
     (rest .0 .0 .0 .1) (rest .0 .0 .1) (rest .0 .1) (rest .1))
 
 pub zk-b-read-spec : {M : Type 1} → statement M

@@ -25,7 +25,8 @@ refused-requires-2 c κs = search needs
 returns-2 : tie.Need-returns-2
 returns-2 c m =
     same-answer _ m (c .refused2 .ensures)
-    ∙ reset-outside (given (c .before .before .before .before .before) m) (c .before .before .before .if1 .left) (λ g. omega arith)
+    ∙ reset-outside (given (c .before .before .before .before .before) m) (c .before .before .before .if1 .left)
+    (λ g. omega arith)
 
 refused-requires-3 : tie.Need-refused-requires-3
 refused-requires-3 c κs = search needs
@@ -50,7 +51,8 @@ returns-4 c m =
     let cleared = c .before .before .before in
     let start = cleared .before .before .before .before .before .before .before .before in
     ap (λ (a : Answer). outcome a (cleared .clear .last .0) m) (c .accepted .ensures)
-    ∙ reset-does (given start m) (cleared .before .before .before .before .before .before .if1 .left) (omega arith) _ (cleared .clear .ensures)
+    ∙ reset-does (given start m) (cleared .before .before .before .before .before .before .if1 .left) (omega arith)
+    _ (cleared .clear .ensures)
 
 pub zk-b-reset-spec : {M : Type 1} → statement M
 zk-b-reset-spec =

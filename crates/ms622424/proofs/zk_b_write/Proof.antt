@@ -9,7 +9,8 @@ use Rattle.vocabulary.specs.Range.{below, fails}
 use Rattle.ms622424.specs.Ms622424.{Chip, chip, Sound, ranges, shortTable, registerAt, isPalette}
 use Rattle.ms622424.specs.Ms622424.{writable, writeRefusals, written, write}
 use Rattle.ms622424.proofs.Standing.{sound}
-use Rattle.ms622424.proofs.Access.{same-answer, outside-too, tried-first, write-does, write-no-access, write-read-mode, not-written}
+use Rattle.ms622424.proofs.Access.{same-answer, outside-too, tried-first, write-does, write-no-access}
+use Rattle.ms622424.proofs.Access.{write-read-mode, not-written}
 use borrow.Author.Needs.{needs}
 use Rattle.ms622424.proofs.zk_b_write.Statement.{statement}
 use Rattle.ms622424.proofs.zk_b_write.Tie as tie
@@ -27,8 +28,10 @@ known c =
 arm : (c : tie.Else1) (k : ℕ) {o : Outcome Chip} → c .before .before .before .before .before .args .select ≡ k
     → writable (registerAt k) ≡ true
     → (isPalette (registerAt k) && eqb (c .before .before .before .before .before .args .s .readmode) 1) ≡ false
-    → o ≡ written (registerAt k) (c .before .before .before .before .before .args .byte) (given (c .before .before .before .before .before))
-    → o ≡ write (c .before .before .before .before .before .args .select) (c .before .before .before .before .before .args .byte) (given (c .before .before .before .before .before))
+    → o ≡ written (registerAt k) (c .before .before .before .before .before .args .byte)
+    (given (c .before .before .before .before .before))
+    → o ≡ write (c .before .before .before .before .before .args .select)
+    (c .before .before .before .before .before .args .byte) (given (c .before .before .before .before .before))
 arm c k = write-does _ (search needs) _ (known c) k _
 
 standing-tables-requires : tie.Need-standing-tables-requires
@@ -46,8 +49,10 @@ returns c =
     let start = c .before .before .before .before .before .before in
     let d = given start in
     same-answer _ _ (c .refused .ensures)
-    ∙ tried-first (writeRefusals (start .args .select) (start .args .byte) d) d _ (shortTable d) (fails (ranges d)) _ refl
-    (outside-too (below (start .args .byte) 256 ∷ []) (ranges d)) (c .before .before .standing-tables .ensures (d .map) refl)
+    ∙ tried-first (writeRefusals (start .args .select) (start .args .byte) d) d _ (shortTable d) (fails (ranges d))
+    _ refl
+    (outside-too (below (start .args .byte) 256 ∷ []) (ranges d))
+    (c .before .before .standing-tables .ensures (d .map) refl)
     (c .before .if1 .taken)
 
 mul-n : tie.Need-mul-n
@@ -81,7 +86,8 @@ returns-2 : tie.Need-returns-2
 returns-2 c =
     let past = c .before .before .before .before in
     same-answer _ _ (c .refused2 .ensures)
-    ∙ write-read-mode _ (search needs) _ (known past) _ (c .before .before .before .match .keys3) (c .before .if2 .taken)
+    ∙ write-read-mode _ (search needs) _ (known past) _ (c .before .before .before .match .keys3)
+    (c .before .if2 .taken)
 
 write-palette-requires : tie.Need-write-palette-requires
 write-palette-requires c κs = known (c .before .before .before .before .before)
@@ -124,7 +130,8 @@ unfolding registerAt writable
 returns-5 c =
     let past = c .before .before .before .before .before .before .before .before .before .before in
     let plain = c .before .before .before .before .before .before .before .if2 .left in
-    arm past 2 (c .before .before .before .before .before .before .before .before .before .match .keys3) refl (ne-eqb _ 1 plain)
+    arm past 2 (c .before .before .before .before .before .before .before .before .before .match .keys3) refl
+    (ne-eqb _ 1 plain)
     (c .before .before .before .before .write-palette .ensures)
 
 same-length-7 : tie.Need-same-length-7

@@ -37,7 +37,8 @@ returns-3 c = (omega arith, λ k e. entry-based 1 _ _ _ _ k (c .match .keys3) re
 
 returns-4 : tie.Need-returns-4
 returns-4 c =
-    let last : c .before .args .mode ≡ 3 = omega (arith, c .match .rest .0 .0 .1, c .match .rest .0 .1, c .match .rest .1) in
+    let last : c .before .args .mode
+    ≡ 3 = omega (arith, c .match .rest .0 .0 .1, c .match .rest .0 .1, c .match .rest .1) in
     (omega arith, λ k e. entry-based 2 _ _ _ _ k last refl e)
 
 pub entry-spec : {M : Type 1} → statement M

@@ -4,7 +4,8 @@ use Prim.Native.Nat.{_^_}
 use native.Mathlib.Omega.{arith}
 use Rattle.vocabulary.specs.Range.{below, fails}
 use Rattle.ms622424.specs.declared.Shown.{Shown}
-use Rattle.ms622424.specs.Ms622424.{Chip, chip, Sound, ranges, shortTable, showing, red, green, blue, pixelByte, pixelRefusals, pixel}
+use Rattle.ms622424.specs.Ms622424.{Chip, chip, Sound, ranges, shortTable, showing, red, green, blue, pixelByte}
+use Rattle.ms622424.specs.Ms622424.{pixelRefusals, pixel}
 use Rattle.ms622424.proofs.Standing.{sound}
 use Rattle.ms622424.proofs.Access.{outside-too, tried-first}
 use Rattle.ms622424_pixel.proofs.Outputs.{pixel-outside, pixel-does}
@@ -37,7 +38,8 @@ returns c =
     let start = c .before .before .before .before .before in
     let d = given start in
     same start (c .refused .ensures)
-    ∙ tried-first (pixelRefusals (start .args .mode) (start .args .word) d) d _ (shortTable d) (fails (ranges d)) _ refl
+    ∙ tried-first (pixelRefusals (start .args .mode) (start .args .word) d) d _ (shortTable d) (fails (ranges d)) _
+    refl
     (outside-too (below (start .args .mode) 4 ∷ below (start .args .word) (2 ^ 24) ∷ []) (ranges d))
     (c .before .before .standing-tables .ensures (d .map) refl) (c .before .if1 .taken)
 
@@ -84,13 +86,31 @@ add-blue : tie.Need-add-blue
 add-blue c = search needs
 
 shared-slice-read-t16 : tie.Need-shared-slice-read-t16
-shared-slice-read-t16 c = omega (arith, known (c .before .before .before .before .before .before), c .before .before .before .entry .ensures .0)
+shared-slice-read-t16 c =
+    omega (
+      arith,
+      known (c .before .before .before .before .before .before),
+      c .before .before .before .entry
+          .ensures .0,
+    )
 
 shared-slice-read-t18 : tie.Need-shared-slice-read-t18
-shared-slice-read-t18 c = omega (arith, known (c .before .before .before .before .before .before .before), c .before .before .before .entry2 .ensures .0)
+shared-slice-read-t18 c =
+    omega (
+      arith,
+      known (c .before .before .before .before .before .before .before),
+      c .before .before .before
+          .entry2 .ensures .0,
+    )
 
 shared-slice-read-t20 : tie.Need-shared-slice-read-t20
-shared-slice-read-t20 c = omega (arith, known (c .before .before .before .before .before .before .before .before), c .before .before .before .entry3 .ensures .0)
+shared-slice-read-t20 c =
+    omega (
+      arith,
+      known (c .before .before .before .before .before .before .before .before),
+      c .before .before
+          .before .entry3 .ensures .0,
+    )
 
 returns-4 : tie.Need-returns-4
 unfolding pixelByte

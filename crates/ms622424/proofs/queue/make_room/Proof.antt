@@ -22,15 +22,23 @@ returns : tie.Need-returns
 unfolding roomMade
 returns c =
     let t = c .before .before .before .before .transfer in
-    let full = c .before .before .before .before .before .before .before .if1 .taken in
-    (omega (arith, t .ensures .0), omega (arith, t .ensures .0), t .ensures .1 ∙ sym (picks-first _ _ (eq-eqb _ 64 full)))
+    let full = c .before .before .before .before .before .before .before .if1 .taken in (
+      omega (arith, t .ensures .0),
+      omega (arith, t .ensures .0),
+      t .ensures .1
+          ∙ sym (picks-first _ _ (eq-eqb _ 64 full)),
+    )
 
 returns-2 : tie.Need-returns-2
 unfolding roomMade moves
 returns-2 c =
     let s = c .before .before .before .before .args .s in
-    let w = c .before .before .before .before .pre .2 in
-    (omega arith, omega arith, same-moves s refl (omega arith) refl refl ∙ sym (picks-second _ _ (ne-eqb _ 64 (c .if1 .left))))
+    let w = c .before .before .before .before .pre .2 in (
+      omega arith,
+      omega arith,
+      same-moves s refl (omega arith) refl refl
+          ∙ sym (picks-second _ _ (ne-eqb _ 64 (c .if1 .left))),
+    )
 
 pub make-room-spec : {M : Type 1} → statement M
 make-room-spec = tie.close (tie.spec transfer-requires same-length same-length-2 returns returns-2)

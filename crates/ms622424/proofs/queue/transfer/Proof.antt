@@ -12,8 +12,11 @@ cast-waiting c = search needs
 store-oldest-requires : tie.Need-store-oldest-requires
 store-oldest-requires c κs =
     let start = c .before .before .before .before .before in
-    let h = start .pre in
-    ((h .1, h .0, omega arith), place-below (chip (start .args .s) (start .args .queue .now) (start .args .map .now)) h)
+    let h = start .pre in (
+      (h .1, h .0, omega arith),
+      place-below
+          (chip (start .args .s) (start .args .queue .now) (start .args .map .now)) h,
+    )
 
 move-down-requires : tie.Need-move-down-requires
 move-down-requires c κs = search needs
@@ -41,7 +44,8 @@ returns c =
     let a = start .args in
     let moved = stores .store-oldest in (
       moved .ensures .0,
-      transferred (a .slots) (moved .result) (chip (a .s) (a .queue .now) (a .map .now)) _ _ _ (start .pre) (moved .ensures .0)
+      transferred (a .slots) (moved .result) (chip (a .s) (a .queue .now) (a .map .now)) _ _ _ (start .pre)
+          (moved .ensures .0)
           (down .move-down .ensures) (c .before .before .clear .ensures) (moved .ensures .1),
     )
 

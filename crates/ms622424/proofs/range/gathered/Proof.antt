@@ -37,11 +37,16 @@ loop-less c = search needs
 loop-again : tie.Need-loop-again Inv-loop μ-loop
 loop-again c =
     let a = c .before .before .before .args in
-    let l = c .before .before .loop in
-    (search needs, search needs, λ k. gather-next k (l .bits) (a .from) (l .i) (a .queue .now) (omega arith) (omega arith) (l .inv .2 k))
+    let l = c .before .before .loop in (
+      search needs,
+      search needs,
+      λ k. gather-next k (l .bits) (a .from) (l .i) (a .queue .now) (omega arith)
+          (omega arith) (l .inv .2 k),
+    )
 
 returns : tie.Need-returns Inv-loop μ-loop
-returns c = let e : c .before .loop .i ≡ c .before .before .args .to = omega arith in λ k. rw e at (c .before .loop .inv .2 k)
+returns c = let e : c .before .loop .i
+    ≡ c .before .before .args .to = omega arith in λ k. rw e at (c .before .loop .inv .2 k)
 
 pub gathered-spec : {M : Type 1} → statement M
 gathered-spec =

@@ -33,7 +33,8 @@ queue-in-range-requires c κs = search needs
 returns-8 : tie.Need-returns-8
 returns-8 c m =
     c .queue-in-range .ensures
-    ∙ queue-decides _ _ m (omega arith) (omega arith) (omega arith) (omega arith) (omega arith) (omega arith) (omega arith) (omega arith) (omega arith)
+    ∙ queue-decides _ _ m (omega arith) (omega arith) (omega arith) (omega arith) (omega arith) (omega arith)
+    (omega arith) (omega arith) (omega arith)
 
 pub in-range-spec : {M : Type 1} → statement M
 in-range-spec =

@@ -28,7 +28,8 @@ returns-2 c =
     let g = c .before .before .gathered in
     let yes : every inMap (held (take (a .waiting) (a .queue .now))) ≡ true =
     sym (waiting-bits (a .queue .now) (a .waiting) (g .result) (g .ensures 37)) ∙ lt-ltb _ _ (c .before .if1 .left) in
-    rw yes (unused-bits (a .queue .now) (a .waiting) (c .gathered2 .result) 64 (search needs) (c .gathered2 .ensures 0))
+    rw yes (unused-bits (a .queue .now) (a .waiting) (c .gathered2 .result) 64 (search needs)
+    (c .gathered2 .ensures 0))
 
 pub queue-in-range-spec : {M : Type 1} → statement M
 queue-in-range-spec = tie.close (tie.spec gathered-requires returns gathered-requires-2 returns-2)
