@@ -3,3 +3,4 @@ pub mod Places
 pub mod Standing
 pub mod Waiting
 pub mod Access
+pub mod Kept

@@ -1,4 +1,10 @@
-// The MS622424: 8,192 colours behind a write queue of 64 entries.
+// The MS622424: 8,192 colours behind a queue of 64 waiting writes.
+//
+// Source document 004 and document 01, "Chip B", decide; specs/Ms622424.antt says it, in 004's order. Here are the
+// state, the MPU port (write and read), blanking and reset; ms622424_pixel has the outputs. The caller lends the colour
+// map (24,576 bytes, red first) and the queue (64 places of one number an entry, oldest first, unused ones zero), and
+// passes the rest of the state by value. Not modelled: clocks, bus timing and the pipeline; the output that is held
+// while the processor has the map.
 mod queue;
 pub mod range;
 
@@ -11,6 +17,7 @@ ghost use Rattle.ms622424.specs.Ms622424.{Sound, accept, refuse, chip, o
 ghost use Rattle.ms622424.specs.Ms622424.{selected, stepped, palette, statusByte, written, write, read};
 ghost use Rattle.ms622424.specs.Ms622424.{blank, reset};
 
+// The registers, and how many entries of the lent queue wait.
 #[repr(C)]
 pub struct State {
     pub address: u16,
@@ -24,6 +31,7 @@ pub struct State {
     pub waiting: u8,
 }
 
+// What a call answers, with the state after it: the refusal, 0 for none, the value read, the entries moved.
 #[repr(C)]
 pub struct Answer {
     pub refusal: u8,
@@ -32,6 +40,7 @@ pub struct Answer {
     pub state: State,
 }
 
+// What a pixel answers: the refusal, 0 for none, and the three bytes of its colour.
 #[repr(C)]
 pub struct Shown {
     pub refusal: u8,
@@ -52,6 +61,7 @@ pub fn refused(refusal: u8, s: State) -> Answer
     }
 }
 
+// An accepted call: what it answers, and the state after it.
 pub fn accepted(value: u8, count: u8, s: State) -> Answer
     ensures { λ r. ⌜ r ≡ accept value count s ⌝ }
 {
@@ -99,6 +109,7 @@ fn write_palette(s: State, byte: u8, queue: &mut [u64], map: &mut [u8]) -> Answe
     accepted(0, moved, step(queue::latch(n, byte, queue)))
 }
 
+// A write of a byte to a select.
 #[no_mangle]
 pub extern "C" fn zk_b_write(
     s: State,
@@ -144,6 +155,7 @@ pub extern "C" fn zk_b_write(
     }
 }
 
+// One of two numbers, by a test.
 fn choose(test: bool, yes: u8, no: u8) -> u8
     ensures { λ r. ⌜ (r ≡ pick test yes no) × (r ≤ yes + no) ⌝ }
 {
@@ -172,6 +184,7 @@ fn read_palette(s: State, map: &[u8]) -> Answer
     accepted(map[at], 0, step(s))
 }
 
+// A read of a select.
 #[no_mangle]
 pub extern "C" fn zk_b_read(s: State, select: u8, queue: &[u64], map: &[u8]) -> Answer
     ensures { λ r. ⌜ outcome r (now (queue .entry)) (now (map .entry))
@@ -214,6 +227,7 @@ pub extern "C" fn zk_b_read(s: State, select: u8, queue: &[u64], map: &[u8]) -> 
     }
 }
 
+// A blanking period of so many slots: each moves the oldest waiting entry, if one waits, into the map.
 #[no_mangle]
 pub extern "C" fn zk_b_blank(s: State, slots: u32, queue: &mut [u64], map: &mut [u8]) -> Answer
     ensures { λ r. ⌜ outcome r (now (queue .exit)) (now (map .exit))
@@ -232,7 +246,7 @@ pub extern "C" fn zk_b_blank(s: State, slots: u32, queue: &mut [u64], map: &mut 
     accepted(0, moved, n)
 }
 
-// It is lent no map, and so keeps it.
+// A reset. It is lent no map, and so keeps it.
 #[no_mangle]
 pub extern "C" fn zk_b_reset(s: State, queue: &mut [u64]) -> Answer
     ensures { λ r. ⌜ ((m : List ℕ) → outcome r (now (queue .exit)) m ≡ reset (chip s (now (queue .entry)) m)) ⌝ }

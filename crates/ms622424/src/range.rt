@@ -39,6 +39,7 @@ fn queue_in_range(queue: &[u64], waiting: u8) -> bool
     gathered(queue, n, 64) == 0
 }
 
+// The state's numbers and the queue's places lie in their ranges.
 fn in_range(s: State, queue: &[u64]) -> bool
     requires { ⌜ length (now queue) ≡ 64 ⌝ }
     ensures { λ r. ⌜ ((m : List ℕ) → r ≡ meets (ranges (chip s (now (queue .entry)) m))) ⌝ }

@@ -25,6 +25,7 @@ fn entry(mode: u8, word: u32, byte: u32) -> usize
     }
 }
 
+// A refused pixel: no colour.
 fn refused(refusal: u8) -> Shown
     ensures { λ r. ⌜ r ≡ dark refusal ⌝ }
 {
@@ -36,6 +37,7 @@ fn refused(refusal: u8) -> Shown
     }
 }
 
+// The colour of a pixel.
 #[no_mangle]
 pub extern "C" fn zk_b_pixel(s: State, mode: u8, word: u32, queue: &[u64], map: &[u8]) -> Shown
     ensures { λ r. ⌜ showing r (chip s (now (queue .entry)) (now (map .entry)))
@@ -70,7 +72,7 @@ fn piped(command: u8, signals: u8) -> u8
     (signals & command & 3) | ((signals | command) & 12)
 }
 
-// It is lent no map, since it reads none.
+// The four timing signals. It is lent no map, since it reads none.
 #[no_mangle]
 pub extern "C" fn zk_b_sync(s: State, signals: u8, queue: &[u64]) -> Answer
     ensures { λ r. ⌜ ((m : List ℕ) → outcome r (now (queue .entry)) m
