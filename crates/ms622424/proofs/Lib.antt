@@ -3,4 +3,7 @@ pub mod Places
 pub mod Standing
 pub mod Waiting
 pub mod Access
-pub mod Kept
+pub mod Write
+pub mod Read
+pub mod Blank
+pub mod Reset

@@ -1,5 +1,7 @@
-use mathlib.Core.Path.{_≡_, refl}
-use Rattle.ms622424.specs.Ms622424.{Colour, selected, stepped}
+use Prim.Native.Nat.{ℕ, _+_, _%_}
+use native.Mathlib.Omega.{arith}
+use mathlib.Core.Path.{_≡_, refl, ap, _∙_}
+use Rattle.ms622424.specs.Ms622424.{Colour, port, selected, stepped}
 use Rattle.ms622424.proofs.Access.{is-red, is-green, is-blue}
 use borrow.Author.Needs.{needs}
 use Rattle.ms622424.proofs.step.Statement.{statement}
@@ -23,7 +25,11 @@ returns-2 c = arm (c .before) (is-green _ (c .match .keys2))
 
 returns-3 : tie.Need-returns-3
 unfolding stepped
-returns-3 c = arm (c .before .before) (is-blue _ (c .before .match .rest .0 .1) (c .before .match .rest .1))
+returns-3 c =
+    let s = c .before .before .args .s in
+    let next : (s .address % 8192 + 1) % 8192 ≡ (s .address + 1) % 8192 = omega arith in
+    let rest = c .before .match .rest in
+    ap (λ (n : ℕ). port s n 0 (s .red) (s .green)) next ∙ arm (c .before .before) (is-blue _ (rest .0 .1) (rest .1))
 
 pub step-spec : {M : Type 1} → statement M
 step-spec = tie.close (tie.spec add-n returns returns-2 returns-3)
