@@ -10,7 +10,18 @@ use Rattle.vocabulary.specs.Outcome.{Outcome, accepting, refusing}
 use Rattle.ms622424.specs.Ms622424.{Chip, Sound, registerAt, isPalette}
 use Rattle.ms622424.specs.Ms622424.{Colour, blue, selected, withState}
 use Rattle.ms622424.specs.Ms622424.{answers, readable, buffer, bufferByte, bufferStepped, readRefusals, read}
+use Rattle.ms622424.specs.declared.State.{State}
+use Rattle.ms622424.specs.Ms622424.{addressLow, addressHigh, green}
 use Rattle.ms622424.proofs.Access.{stops, goes-on, lengths-right, ranges-right}
+
+-- a read of the address moves nothing, and neither does the buffer's green read
+pub address-read-keeps : (c : Chip) → (answers addressLow c .left ≡ c) × (answers addressHigh c .left ≡ c)
+unfolding answers
+address-read-keeps c = (refl, refl)
+
+pub green-read-keeps : (s : State) → bufferStepped green s ≡ s
+unfolding bufferStepped
+green-read-keeps s = refl
 
 module _ (c : Chip) (h : Sound c) where
   -- a register that is read

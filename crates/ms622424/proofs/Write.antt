@@ -3,7 +3,7 @@ use Prim.Native.Nat.{ℕ, zero, suc, _-_, _<_}
 use mathlib.Core.Path.{_≡_, refl, ap, _∙_}
 use mathlib.Core.Bool.{true, false, not, _&&_}
 use mathlib.Core.List.{List, [], _∷_}
-use borrow.Author.Tests.{eq-eqb}
+use borrow.Author.Tests.{eq-eqb, ne-eqb}
 use lib.Dec.{eqb}
 use Rattle.vocabulary.specs.Range.{below, fails}
 use Rattle.vocabulary.specs.Refusal.{lentLength, outOfRange, noAccess, noIndex, readMode}
@@ -14,7 +14,31 @@ use Rattle.ms622424.specs.Ms622424.{Chip, chip, ranges, Sound, registerA
 use Rattle.ms622424.specs.Ms622424.{Colour, red, green, blue, selected, stepped, withState, complete}
 use Rattle.ms622424.specs.Ms622424.{Moves, made, roomMade, latched, palette, written, writable}
 use Rattle.ms622424.specs.Ms622424.{writeRefusals, write}
+use Rattle.vocabulary.proofs.Choice.{picks-first, picks-second}
+use Rattle.ms622424.specs.Ms622424.{addressLow, addressHigh, moves}
 use Rattle.ms622424.proofs.Access.{stops, goes-on, lengths-right}
+
+-- a full queue makes room, whatever the counter; another has it
+pub room-forced : (c : Chip) → c .state .waiting ≡ 64 → roomMade c ≡ moves 4 c
+unfolding roomMade
+room-forced c e = picks-first _ _ (eq-eqb _ 64 e)
+
+pub room-left : (c : Chip) → (c .state .waiting ≡ 64 → ⊥) → roomMade c ≡ made 0 c
+unfolding roomMade moves
+room-left c e = picks-second _ _ (ne-eqb _ 64 e)
+
+-- completing keeps the map, and an address write keeps the buffer
+pub complete-keeps-map : (byte : ℕ) (c : Chip) → complete byte c .map ≡ c .map
+unfolding complete
+complete-keeps-map byte c = refl
+
+pub address-write-keeps-buffer : (byte : ℕ) (c : Chip)
+    → (written addressLow byte c .left .state .red ≡ c .state .red)
+    × (written addressLow byte c .left .state .green ≡ c .state .green)
+    × (written addressHigh byte c .left .state .red ≡ c .state .red)
+    × (written addressHigh byte c .left .state .green ≡ c .state .green)
+unfolding written
+address-write-keeps-buffer byte c = (refl, refl, refl, refl)
 
 -- latching does not move the counter
 pub latched-counter : (k : Colour) (byte : ℕ) (c : Chip) → latched k byte c .state .counter ≡ c .state .counter
