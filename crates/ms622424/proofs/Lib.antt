@@ -1,0 +1,9 @@
+pub mod Every
+pub mod Places
+pub mod Standing
+pub mod Waiting
+pub mod Access
+pub mod Write
+pub mod Read
+pub mod Blank
+pub mod Reset

@@ -1,0 +1,58 @@
+use mathlib.Core.Path.{_≡_, refl}
+use native.Mathlib.Omega.{arith}
+use Rattle.ms622424_pixel.proofs.Outputs.{entry-index, entry-based}
+use borrow.Author.Needs.{needs}
+use Rattle.ms622424_pixel.proofs.entry.Statement.{statement}
+use Rattle.ms622424_pixel.proofs.entry.Tie as tie
+
+cast-result : tie.Need-cast-result
+cast-result c = search needs
+
+add-result : tie.Need-add-result
+add-result c = search needs
+
+cast-result-2 : tie.Need-cast-result-2
+cast-result-2 c = search needs
+
+add-result-2 : tie.Need-add-result-2
+add-result-2 c = search needs
+
+cast-result-3 : tie.Need-cast-result-3
+cast-result-3 c = search needs
+
+add-result-3 : tie.Need-add-result-3
+add-result-3 c = search needs
+
+cast-result-4 : tie.Need-cast-result-4
+cast-result-4 c = search needs
+
+returns : tie.Need-returns
+returns c = (omega arith, λ k e. entry-index _ _ k (c .match .keys1))
+
+returns-2 : tie.Need-returns-2
+returns-2 c = (omega arith, λ k e. entry-based 0 _ _ _ _ k (c .match .keys2) refl e)
+
+returns-3 : tie.Need-returns-3
+returns-3 c = (omega arith, λ k e. entry-based 1 _ _ _ _ k (c .match .keys3) refl e)
+
+returns-4 : tie.Need-returns-4
+returns-4 c =
+    let last : c .before .args .mode
+    ≡ 3 = omega (arith, c .match .rest .0 .0 .1, c .match .rest .0 .1, c .match .rest .1) in
+    (omega arith, λ k e. entry-based 2 _ _ _ _ k last refl e)
+
+pub entry-spec : {M : Type 1} → statement M
+entry-spec =
+    tie.close
+    (tie.spec
+    cast-result
+    add-result
+    cast-result-2
+    add-result-2
+    cast-result-3
+    add-result-3
+    cast-result-4
+    returns
+    returns-2
+    returns-3
+    returns-4)
