@@ -489,3 +489,6 @@ showing a c = record {
   line = 0;
   left = c;
 }
+
+abbrev pub dark : ℕ → Shown
+dark n = record { refusal = n; red = 0; green = 0; blue = 0 }

@@ -11,7 +11,8 @@ use Rattle.vocabulary.specs.Refusal.{refusalOf}
 use Rattle.vocabulary.specs.Outcome.{Outcome, answeredAt}
 use Rattle.vocabulary.proofs.Outcome.{accepted-does}
 use Rattle.ms622424.specs.Ms622424
-use Rattle.ms622424.specs.Ms622424.{Chip, Entry, allStored, Register, isPalette, registerAt, completed, written, writeRefusals}
+use Rattle.ms622424.specs.Ms622424.{Chip, Entry, allStored, Register, isPalette, registerAt, completed, written}
+use Rattle.ms622424.specs.Ms622424.{writeRefusals}
 use Rattle.ms622424_unseen.specs.Unseen.{Call, write, read, blank, pixel, sync, reset, outcome, Accepted, left}
 use Rattle.ms622424_unseen.specs.Unseen.{completedBy, settled}
 use Rattle.ms622424_unseen.proofs.Accepted.{left-holds-if}

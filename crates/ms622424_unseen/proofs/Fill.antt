@@ -19,6 +19,7 @@ use Rattle.ms622424.proofs.Every.{both, pair, every-append, every-one}
 use Rattle.ms622424.proofs.Waiting.{complete-waiting}
 use Rattle.ms622424_unseen.specs.Unseen.{Call, write, reset, outcome, Accepted, left, after}
 use Rattle.ms622424_unseen.proofs.Accepted.{accepted-none, refusal-clear}
+use Rattle.ms622424_unseen.proofs.Range.{taken}
 use Rattle.ms622424_unseen.proofs.Kept.{sound-fresh, call-sound}
 use Rattle.ms622424_unseen.proofs.Accepting.{palette-accepted}
 
@@ -32,14 +33,14 @@ pub record Filling (n : ℕ) (c : Chip) : Type 0 where
   pub placed : c .state .address ≡ c .state .waiting
   pub waits : every low (waitingColours c) ≡ true
 
-latched-fills : (k n byte : ℕ) (c : Chip) → c .state .counter ≡ k → Sound c → Filling n c → n < 192 → byte < 256
-    → Filling (n + 1) (latched (selected k) byte c)
+taken-fills : (k n byte : ℕ) (c : Chip) → c .state .counter ≡ k → Sound c → Filling n c → n < 192 → byte < 256
+    → Filling (n + 1) (taken (selected k) byte c)
 unfolding selected latched stepped complete waitingColours
-latched-fills zero n byte c e h f hn hb =
+taken-fills zero n byte c e h f hn hb =
     record { writing = f .writing; bytes = omega (arith, f .bytes); placed = f .placed; waits = f .waits }
-latched-fills (suc zero) n byte c e h f hn hb =
+taken-fills (suc zero) n byte c e h f hn hb =
     record { writing = f .writing; bytes = omega (arith, f .bytes); placed = f .placed; waits = f .waits }
-latched-fills (suc (suc zero)) n byte c e (l, _, r) f hn hb =
+taken-fills (suc (suc zero)) n byte c e (l, _, r) f hn hb =
     let small : c .state .address < 64 = omega (arith, f .bytes, f .placed) in
     let one : low (completed (c .state) byte) ≡ true = lt-ltb (c .state .address) 64 small in
     let all : every low (waitingColours (complete byte c)) ≡ true =
@@ -51,7 +52,7 @@ latched-fills (suc (suc zero)) n byte c e (l, _, r) f hn hb =
       placed = omega (arith, f .bytes, f .placed);
       waits = all;
     }
-latched-fills (suc (suc (suc k))) n byte c e (_, _, r) f hn hb = absurd (let z : ⊥ = omega arith in z)
+taken-fills (suc (suc (suc k))) n byte c e (_, _, r) f hn hb = absurd (let z : ⊥ = omega arith in z)
 
 -- ---- bytes for the palette, one after another
 abbrev pub forPalette : List ℕ → List Call
@@ -73,8 +74,8 @@ fill-step n byte c h f hn hb =
     let space = room-enough c (omega (arith, f .bytes)) in
     let k = c .state .counter in
     subst (λ (o : Outcome Chip). Filling (n + 1) (o .left)) (sym accepted)
-    (subst (λ (m : Moves). Filling (n + 1) (latched (selected k) byte (m .after))) (sym space)
-    (latched-fills k n byte c refl h f hn hb))
+    (subst (λ (m : Moves). Filling (n + 1) (taken (selected k) byte (m .after))) (sym space)
+    (taken-fills k n byte c refl h f hn hb))
 
 pub fill : (bytes : List ℕ) (n : ℕ) (c : Chip) → areBytes bytes ≡ true → Sound c → Filling n c → n + length bytes ≤ 192
     → Sound (after (forPalette bytes) c) × Filling (n + length bytes) (after (forPalette bytes) c)

@@ -7,25 +7,21 @@ use Rattle.vocabulary.specs.Range.{Holds}
 use Rattle.vocabulary.proofs.Range.{passes-holds}
 use Rattle.ms622424.specs.Ms622424
 use Rattle.ms622424.specs.Ms622424.{Chip, chip, waitingColours, every, Sound, keptRanges, Register, Colour, selected}
-use Rattle.ms622424.specs.Ms622424.{complete, latched, written, answers, Moves, places, fresh, registerAt}
-use Rattle.ms622424.specs.Ms622424.{resetRefusals}
+use Rattle.ms622424.specs.Ms622424.{latched, written, answers, Moves, places, fresh, registerAt, resetRefusals}
 use Rattle.ms622424_unseen.specs.Unseen.{Call, write, read, blank, pixel, sync, reset, outcome, left}
 use Rattle.ms622424_unseen.proofs.Accepted.{left-holds-if, refusal-clear}
-use Rattle.ms622424_unseen.proofs.Range.{write-sound, sound-port, sound-control, sound-stepped, sound-buffer}
-use Rattle.ms622424_unseen.proofs.Range.{sound-complete, sound-moves, room, moves-fewer}
+use Rattle.ms622424_unseen.proofs.Range.{taken, write-sound, sound-port, sound-control, sound-stepped}
+use Rattle.ms622424_unseen.proofs.Range.{sound-buffer, sound-complete, sound-moves, room, moves-fewer}
 
 -- ---- what accepted calls leave
 sound-latched : (k : Colour) (byte : ℕ) (c : Chip) → Sound c → c .state .waiting < 64 → byte < 256
     → Sound (latched k byte c)
 unfolding latched
 sound-latched Ms622424.red byte c h hw hb =
-    let (_, _, r) = h in
-    sound-stepped Ms622424.red _ (sound-port c _ _ byte _ h (r .0) (r .1 .0) hb (r .1 .1 .1 .0))
+    let (_, _, r) = h in sound-port c _ _ byte _ h (r .0) (r .1 .0) hb (r .1 .1 .1 .0)
 sound-latched Ms622424.green byte c h hw hb =
-    let (_, _, r) = h in
-    sound-stepped Ms622424.green _ (sound-port c _ _ _ byte h (r .0) (r .1 .0) (r .1 .1 .0) hb)
-sound-latched Ms622424.blue byte c h hw hb =
-    sound-stepped Ms622424.blue (complete byte c) (sound-complete byte c h hw hb)
+    let (_, _, r) = h in sound-port c _ _ _ byte h (r .0) (r .1 .0) (r .1 .1 .0) hb
+sound-latched Ms622424.blue byte c h hw hb = sound-complete byte c h hw hb
 
 sound-written : (r : Register) (byte : ℕ) (c : Chip) → Sound c → byte < 256 → Sound (written r byte c .left)
 unfolding written
@@ -41,8 +37,9 @@ sound-written Ms622424.palette byte c h hb =
     let (_, _, r) = h in
     let k = selected (c .state .counter) in
     let n = room c h in
-    subst (λ (m : Moves). Sound (latched k byte (m .after))) (sym (n .are))
-    (sound-latched k byte _ (sound-moves (n .slots) c h) (moves-fewer (n .slots) c (omega arith) (n .enough)) hb)
+    let fewer = moves-fewer (n .slots) c (omega arith) (n .enough) in
+    subst (λ (m : Moves). Sound (taken k byte (m .after))) (sym (n .are))
+    (sound-stepped k _ (sound-latched k byte _ (sound-moves (n .slots) c h) fewer hb))
 sound-written Ms622424.command byte c h hb =
     let (_, _, r) = h in sound-control c (byte % 32) _ h (omega arith) (r .1 .1 .1 .1 .1 .0)
 sound-written Ms622424.status byte c h hb = h

@@ -14,12 +14,17 @@ use Rattle.vocabulary.proofs.Choice.{picks-first, picks-second, cases}
 use Rattle.vocabulary.proofs.Range.{passes-holds}
 use Rattle.ms622424.specs.Ms622424
 use Rattle.ms622424.specs.Ms622424.{Chip, chip, port, control, queued, withState, held, waitingColours, every, inMap}
-use Rattle.ms622424.specs.Ms622424.{isZero, Sound, Colour, stepped, bufferStepped, complete, completed, packed}
-use Rattle.ms622424.specs.Ms622424.{Moves, moves, roomMade, places, ranges, shortTable, writeRefusals, blankRefusals}
+use Rattle.ms622424.specs.Ms622424.{isZero, Sound, Colour, stepped, bufferStepped, latched, complete, completed}
+use Rattle.ms622424.specs.Ms622424.{packed, Moves, moves, roomMade, places, ranges, shortTable, writeRefusals}
+use Rattle.ms622424.specs.Ms622424.{blankRefusals}
 use Rattle.ms622424.proofs.Every.{both, pair, every-append, every-one}
 use Rattle.ms622424.proofs.Places.{all-stored-length}
 use Rattle.ms622424.proofs.Waiting.{complete-waiting, movesOf, moves-least, moves-waiting}
 use Rattle.ms622424_unseen.proofs.Accepted.{refusal-clear}
+
+-- a byte for the palette, with room in the queue: latched, and the counter moved
+abbrev pub taken : Colour → ℕ → Chip → Chip
+taken k byte c = let d = latched k byte c in withState (stepped k (d .state)) d
 
 -- ---- past refusals 1 and 9 the chip is in range
 sound : (c : Chip) → shortTable c ≡ false → Holds (ranges c) → Sound c

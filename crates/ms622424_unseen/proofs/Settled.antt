@@ -16,7 +16,7 @@ use Rattle.ms622424.specs.Ms622424.{roomMade, latched, written, bufferStepped, 
 use Rattle.ms622424.proofs.Places.{all-stored-append}
 use Rattle.ms622424.proofs.Waiting.{complete-waiting, moves-waiting, moves-map}
 use Rattle.ms622424_unseen.specs.Unseen.{settled}
-use Rattle.ms622424_unseen.proofs.Range.{sound-moves, room, moves-state, moves-fewer}
+use Rattle.ms622424_unseen.proofs.Range.{taken, sound-moves, room, moves-state, moves-fewer}
 
 -- ---- the settled map depends on how many wait, on the queue and on the map
 pub same-waiting : (s : State) (c : Chip) → s .waiting ≡ c .state .waiting → settled (withState s c) ≡ settled c
@@ -44,34 +44,41 @@ complete-settled byte c h hr hg hb =
     ap (λ (l : List Entry). allStored l (c .map)) (complete-waiting byte c h hr hg hb)
     ∙ all-stored-append (waitingColours c) (completed (c .state) byte ∷ []) (c .map)
 
+-- ---- stepping changes nothing of it
+stepped-waiting : (k : Colour) (s : State) → stepped k s .waiting ≡ s .waiting
+unfolding stepped
+stepped-waiting Ms622424.red s = refl
+stepped-waiting Ms622424.green s = refl
+stepped-waiting Ms622424.blue s = refl
+
 -- ---- a byte for the palette, with room in the queue: what blue completes is written, red and green write nothing
 latched-settled : (n byte : ℕ) (c : Chip) → n < 3 → c .state .waiting < length (c .queue) → c .state .red < 256
     → c .state .green < 256 → byte < 256
     → settled (latched (selected n) byte c)
     ≡ allStored (pick (eqb n 2) (completed (c .state) byte ∷ []) []) (settled c)
-unfolding selected latched stepped pick allStored
+unfolding selected latched pick allStored
 latched-settled zero byte c hn h hr hg hb = same-waiting _ c refl
 latched-settled (suc zero) byte c hn h hr hg hb = same-waiting _ c refl
-latched-settled (suc (suc zero)) byte c hn h hr hg hb =
-    same-waiting _ (complete byte c) refl ∙ complete-settled byte c h hr hg hb
+latched-settled (suc (suc zero)) byte c hn h hr hg hb = complete-settled byte c h hr hg hb
 latched-settled (suc (suc (suc n))) byte c hn h hr hg hb = absurd (let z : ⊥ = omega arith in z)
 
 -- ---- each call, accepted
 palette-settled : (byte : ℕ) (c : Chip) → Sound c → byte < 256
-    → settled (latched (selected (c .state .counter)) byte (roomMade c .after))
+    → settled (taken (selected (c .state .counter)) byte (roomMade c .after))
     ≡ allStored (pick (eqb (c .state .counter) 2) (completed (c .state) byte ∷ []) []) (settled c)
-palette-settled byte c k hb =
-    let (l, _, r) = k in
+palette-settled byte c whole hb =
+    let (l, _, r) = whole in
     let n = c .state .counter in
-    let space = room c k in
+    let space = room c whole in
     let d = moves (space .slots) c .after in
-    let (l', _, r') = sound-moves (space .slots) c k in
+    let (l', _, r') = sound-moves (space .slots) c whole in
     let fewer = moves-fewer (space .slots) c (omega arith) (space .enough) in
-    let e : completed (d .state) byte ≡ completed (c .state) byte =
-    ap (λ (s : State). completed s byte) (moves-state (space .slots) c (omega arith)) in
+    let e = ap (λ (s : State). completed s byte) (moves-state (space .slots) c (omega arith)) in
     let same = moves-settled (space .slots) c (omega arith) in
-    ap (λ (m : Moves). settled (latched (selected n) byte (m .after))) (space .are)
-    ∙ (latched-settled n byte d (omega arith) (omega arith) (omega arith) (omega arith) hb ∙ rw (e, same) refl)
+    let k = selected n in
+    ap (λ (m : Moves). settled (taken k byte (m .after))) (space .are)
+    ∙ (same-waiting _ (latched k byte d) (stepped-waiting k (latched k byte d .state))
+    ∙ (latched-settled n byte d (omega arith) (omega arith) (omega arith) (omega arith) hb ∙ rw (e, same) refl))
 
 pub written-settled : (r : Register) (byte : ℕ) (c : Chip) → Sound c → byte < 256
     → settled (written r byte c .left)
@@ -86,12 +93,6 @@ written-settled Ms622424.buffer byte c k hb = refl
 written-settled Ms622424.revision byte c k hb = refl
 written-settled Ms622424.initialization byte c k hb = same-waiting _ c refl
 written-settled Ms622424.none byte c k hb = refl
-
-stepped-waiting : (k : Colour) (s : State) → stepped k s .waiting ≡ s .waiting
-unfolding stepped
-stepped-waiting Ms622424.red s = refl
-stepped-waiting Ms622424.green s = refl
-stepped-waiting Ms622424.blue s = refl
 
 buffer-waiting : (k : Colour) (s : State) → bufferStepped k s .waiting ≡ s .waiting
 unfolding bufferStepped

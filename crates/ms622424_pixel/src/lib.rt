@@ -1,0 +1,85 @@
+// The MS622424's outputs: the colour of a pixel, and the four timing signals.
+//
+// Source document 004, "Pin Descriptions", and document 01, "Chip B", decide; ms622424's specs/Ms622424.antt says it
+// (`pixel`, `sync`). Neither call changes anything. Not modelled: the pipeline's delay, the held colour while the
+// processor has the map, the pins' timing.
+use ms622424::Answer;
+use ms622424::Shown;
+use ms622424::State;
+
+ghost use mathlib.Core.Path.{_≡_};
+ghost use mathlib.Core.List.{List};
+ghost use Prim.Native.Nat.{ℕ, _<_};
+ghost use Rattle.ms622424.specs.Ms622424.{chip, outcome, showing, dark, Colour, pixelByte, entryShown, pixel, pipeOut, sync};
+
+// The entry that a gun shows, of which `byte` is the gun's own byte of the pixel.
+fn entry(mode: u8, word: u32, byte: u32) -> usize
+    requires { ⌜ (mode < 4) × (byte < 256) ⌝ }
+    ensures { λ r. ⌜ (r < 8192) × ((k : Colour) → byte ≡ pixelByte k word → r ≡ entryShown mode word k) ⌝ }
+{
+    match mode {
+        0 => (word % 8192) as usize,
+        1 => (7424 + byte) as usize,
+        2 => (7680 + byte) as usize,
+        _ => (7936 + byte) as usize,
+    }
+}
+
+fn refused(refusal: u8) -> Shown
+    ensures { λ r. ⌜ r ≡ dark refusal ⌝ }
+{
+    Shown {
+        refusal: refusal,
+        red: 0,
+        green: 0,
+        blue: 0,
+    }
+}
+
+#[no_mangle]
+pub extern "C" fn zk_b_pixel(s: State, mode: u8, word: u32, queue: &[u64], map: &[u8]) -> Shown
+    ensures { λ r. ⌜ showing r (chip s (now (queue .entry)) (now (map .entry))) ≡ pixel mode word (chip s (now (queue .entry)) (now (map .entry))) ⌝ }
+{
+    let refusal = ms622424::range::standing_tables(s, queue, map.len());
+    if refusal != 0 {
+        return refused(refusal);
+    }
+    if 3 < mode {
+        return refused(9);
+    }
+    if 16777215 < word {
+        return refused(9);
+    }
+    let red = 3 * entry(mode, word, word % 256);
+    let green = 3 * entry(mode, word, word / 256 % 256) + 1;
+    let blue = 3 * entry(mode, word, word / 65536) + 2;
+    Shown {
+        refusal: 0,
+        red: map[red],
+        green: map[green],
+        blue: map[blue],
+    }
+}
+
+// The first two signals with command bits 0 and 1, the others with bits 2 and 3.
+fn piped(command: u8, signals: u8) -> u8
+    requires { ⌜ (command < 32) × (signals < 16) ⌝ }
+    ensures { λ r. ⌜ r ≡ pipeOut command signals ⌝ }
+{
+    (signals & command & 3) | ((signals | command) & 12)
+}
+
+// It is lent no map, since it reads none.
+#[no_mangle]
+pub extern "C" fn zk_b_sync(s: State, signals: u8, queue: &[u64]) -> Answer
+    ensures { λ r. ⌜ ((m : List ℕ) → outcome r (now (queue .entry)) m ≡ sync signals (chip s (now (queue .entry)) m)) ⌝ }
+{
+    let refusal = ms622424::range::standing_queue(s, queue);
+    if refusal != 0 {
+        return ms622424::refused(refusal, s);
+    }
+    if 15 < signals {
+        return ms622424::refused(9, s);
+    }
+    ms622424::accepted(piped(s.command, signals), 0, s)
+}
