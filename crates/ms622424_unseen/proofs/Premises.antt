@@ -6,18 +6,22 @@ use mathlib.Core.Bool.{Bool, true, false, not}
 use mathlib.Core.List.{List, [], _∷_, _++_}
 use native.Mathlib.Omega.{arith}
 use borrow.Author.Tests.{eq-eqb, ne-eqb, ltb-true}
-use lib.ListN.{length}
-use Rattle.vocabulary.specs.Outcome.{Outcome}
+use lib.Dec.{ltb}
+use lib.ListN.{length, replicate, length-replicate}
+use Rattle.vocabulary.specs.Range.{fails, meets}
+use Rattle.vocabulary.specs.Refusal.{refusalOf}
+use Rattle.vocabulary.specs.Outcome.{Outcome, answeredAt}
 use Rattle.vocabulary.proofs.Choice.{picks-first}
 use Rattle.vocabulary.proofs.Range.{clash}
 use Rattle.ms622424.specs.declared.State.{State}
+use Rattle.ms622424.specs.Ms622424
 use Rattle.ms622424.specs.Ms622424.{Chip, Entry, Colour, entryShown, waitingColours, every, Sound, places, written}
 use Rattle.ms622424.specs.Ms622424.{Moves, moves, roomMade}
 use Rattle.ms622424.proofs.Every.{both, pair, every-append}
 use Rattle.ms622424.proofs.Waiting.{moves-count}
 use Rattle.ms622424_unseen.specs.Unseen.{Call, write, read, blank, pixel, sync, reset, outcome, Accepted, left}
 use Rattle.ms622424_unseen.specs.Unseen.{after, NoReset, ReadsNoWaiting}
-use Rattle.ms622424_unseen.proofs.Range.{moves-state}
+use Rattle.ms622424_unseen.proofs.Range.{every-replicate, moves-state}
 use Rattle.ms622424_unseen.proofs.Kept.{call-sound}
 use Rattle.ms622424_unseen.proofs.Accepting.{palette-accepted, initialized, blanked, table-read}
 use Rattle.ms622424_unseen.proofs.Accepting.{pixel-accepted}
@@ -138,3 +142,27 @@ premises-met before bytes a m b l =
       longer = no-reset (forPalette bytes ++ emptied) start (emptied-other bytes);
       reads = rw (after-append (forPalette bytes) emptied start) (read-after c hc full);
     }
+
+-- and there is such a chip: every number 0
+pub zeros : Chip
+zeros = record {
+  state = record {
+    address = 0;
+    counter = 0;
+    red = 0;
+    green = 0;
+    command = 0;
+    readmode = 0;
+    revision = 0;
+    board = 0;
+    waiting = 0;
+  };
+  queue = replicate places 0;
+  map = replicate 24576 0;
+}
+
+pub one-run : Met (left reset zeros) (forPalette (replicate 192 0))
+unfolding zeros outcome Ms622424.reset refusalOf answeredAt fails meets
+one-run =
+    premises-met zeros (replicate 192 0) refl (length-replicate {A = ℕ} 24576 0)
+    (every-replicate (λ (n : ℕ). ltb n 256) 192 0 refl) (length-replicate {A = ℕ} 192 0)

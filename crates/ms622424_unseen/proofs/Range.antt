@@ -85,7 +85,7 @@ module _ {A : Type 0} (p : A → Bool) where
   every-drop (suc n) [] e = e
   every-drop (suc n) (x ∷ xs) e = every-drop n xs (both (p x) _ e .1)
 
-  every-replicate : (n : ℕ) (x : A) → p x ≡ true → every p (replicate n x) ≡ true
+  pub every-replicate : (n : ℕ) (x : A) → p x ≡ true → every p (replicate n x) ≡ true
   unfolding every
   every-replicate zero x e = refl
   every-replicate (suc n) x e = pair e (every-replicate n x e)
