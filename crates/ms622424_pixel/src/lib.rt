@@ -6,7 +6,6 @@
 use ms622424::Answer;
 use ms622424::Shown;
 use ms622424::State;
-
 ghost use mathlib.Core.Path.{_≡_};
 ghost use mathlib.Core.List.{List};
 ghost use Prim.Native.Nat.{ℕ, _<_};

@@ -1,52 +1,44 @@
+use mathlib.Core.Path.{_≡_, refl}
+use native.Mathlib.Omega.{arith}
+use Rattle.ms622424_pixel.proofs.Outputs.{entry-index, entry-based}
 use borrow.Author.Needs.{needs}
 use Rattle.ms622424_pixel.proofs.entry.Statement.{statement}
 use Rattle.ms622424_pixel.proofs.entry.Tie as tie
-use Rattle.ms622424_pixel.proofs.entry.Reads as reads
-use Rattle.ms622424_pixel.proofs.entry.Lts as lts
 
--- src/lib.rt:21:14
 cast-result : tie.Need-cast-result
 cast-result c = search needs
 
--- src/lib.rt:22:15
 add-result : tie.Need-add-result
 add-result c = search needs
 
--- src/lib.rt:22:14
 cast-result-2 : tie.Need-cast-result-2
 cast-result-2 c = search needs
 
--- src/lib.rt:23:15
 add-result-2 : tie.Need-add-result-2
 add-result-2 c = search needs
 
--- src/lib.rt:23:14
 cast-result-3 : tie.Need-cast-result-3
 cast-result-3 c = search needs
 
--- src/lib.rt:24:15
 add-result-3 : tie.Need-add-result-3
 add-result-3 c = search needs
 
--- src/lib.rt:24:14
 cast-result-4 : tie.Need-cast-result-4
 cast-result-4 c = search needs
 
--- src/lib.rt:16:1
 returns : tie.Need-returns
-returns c = ?
+returns c = (omega arith, λ k e. entry-index _ _ k (c .match .keys1))
 
--- src/lib.rt:16:1
 returns-2 : tie.Need-returns-2
-returns-2 c = ?
+returns-2 c = (omega arith, λ k e. entry-based 0 _ _ _ _ k (c .match .keys2) refl e)
 
--- src/lib.rt:16:1
 returns-3 : tie.Need-returns-3
-returns-3 c = ?
+returns-3 c = (omega arith, λ k e. entry-based 1 _ _ _ _ k (c .match .keys3) refl e)
 
--- src/lib.rt:16:1
 returns-4 : tie.Need-returns-4
-returns-4 c = ?
+returns-4 c =
+    let last : c .before .args .mode ≡ 3 = omega (arith, c .match .rest .0 .0 .1, c .match .rest .0 .1, c .match .rest .1) in
+    (omega arith, λ k e. entry-based 2 _ _ _ _ k last refl e)
 
 pub entry-spec : {M : Type 1} → statement M
 entry-spec =

@@ -1,44 +1,70 @@
+use mathlib.Core.Path.{_≡_, refl, sym, ap, _∙_}
+use mathlib.Core.List.{List, [], _∷_}
+use mathlib.Core.Bool.{false}
+use Prim.Native.Nat.{ℕ}
+use native.Mathlib.Omega.{arith}
+use Rattle.vocabulary.specs.Range.{below, fails, Holds}
+use Rattle.vocabulary.proofs.Range.{passes-holds}
+use Rattle.vocabulary.proofs.Refusal.{standing-clear}
+use Rattle.ms622424.specs.declared.Answer.{Answer}
+use Rattle.ms622424.specs.Ms622424.{Chip, chip, ranges, shortQueue, outcome, syncRefusals, sync}
+use Rattle.ms622424.proofs.Access.{outside-too, tried-first}
+use Rattle.ms622424_pixel.proofs.Outputs.{sync-outside, sync-does}
 use borrow.Author.Needs.{needs}
 use Rattle.ms622424_pixel.proofs.zk_b_sync.Statement.{statement}
 use Rattle.ms622424_pixel.proofs.zk_b_sync.Tie as tie
-use Rattle.ms622424_pixel.proofs.zk_b_sync.Reads as reads
-use Rattle.ms622424_pixel.proofs.zk_b_sync.Lts as lts
-use Rattle.ms622424.proofs.accepted.Reads as accepted-reads
-use Rattle.ms622424.proofs.range.standing_queue.Reads as standing-queue-reads
-use Rattle.ms622424.proofs.refused.Reads as refused-reads
-use Rattle.ms622424_pixel.proofs.piped.Reads as piped-reads
 
--- src/lib.rt:77:9
+-- the chip as the call finds it, with whatever map
+abbrev given : tie.Start → List ℕ → Chip
+given c m = chip (c .args .s) (c .args .queue .now) m
+
+-- what is known past what is tried first
+known : (c : tie.Else1) (m : List ℕ)
+    → (shortQueue (given (c .before .before .before) m) ≡ false) × Holds (ranges (given (c .before .before .before) m))
+known c m =
+    let t = standing-clear _ _ (sym (c .before .standing-queue .ensures m) ∙ c .if1 .left) in
+    (t .0, passes-holds _ (t .1))
+
+-- the same answer leaves the same
+same : (c : tie.Start) (m : List ℕ) {a b : Answer} → a ≡ b → outcome a (c .args .queue .now) m ≡ outcome b (c .args .queue .now) m
+same c m e = rw e refl
+
 standing-queue-requires : tie.Need-standing-queue-requires
 standing-queue-requires c κs = search needs
 
--- src/lib.rt:79:9
 refused-requires : tie.Need-refused-requires
 refused-requires c κs = search needs
 
--- src/lib.rt:79:9
 returns : tie.Need-returns
-returns c = ?
+unfolding sync
+returns c m =
+    let start = c .before .before .before .before in
+    let d = given start m in
+    same start m (c .refused .ensures)
+    ∙ tried-first (syncRefusals (start .args .signals) d) d _ (shortQueue d) (fails (ranges d)) _ refl
+    (outside-too (below (start .args .signals) 16 ∷ []) (ranges d)) (c .before .before .standing-queue .ensures m)
+    (c .before .if1 .taken)
 
--- src/lib.rt:82:9
 refused-requires-2 : tie.Need-refused-requires-2
 refused-requires-2 c κs = search needs
 
--- src/lib.rt:82:9
 returns-2 : tie.Need-returns-2
-returns-2 c = ?
+returns-2 c m =
+    let past = c .before .before in
+    same (past .before .before .before) m (c .refused2 .ensures) ∙ sync-outside _ _ (known past m .0) (omega arith)
 
--- src/lib.rt:84:24
 piped-requires : tie.Need-piped-requires
-piped-requires c κs = ?
+piped-requires c κs = omega (arith, known (c .before) [])
 
--- src/lib.rt:84:5
 accepted-requires : tie.Need-accepted-requires
 accepted-requires c κs = search needs
 
--- src/lib.rt:73:1
 returns-3 : tie.Need-returns-3
-returns-3 c = ?
+returns-3 c m =
+    let past = c .before .before .before in
+    let k = known past m in
+    same (past .before .before .before) m (c .accepted .ensures)
+    ∙ sync-does _ _ (k .0) (omega arith) (k .1) _ (c .before .piped .ensures)
 
 pub zk-b-sync-spec : {M : Type 1} → statement M
 zk-b-sync-spec =
