@@ -41,4 +41,4 @@ moved-keeps-tables blinkTiming c = (refl, refl)
 pub read-keeps-tables : (select : ℕ) (c : Chip) → SameTables c (read select c .left)
 unfolding read
 read-keeps-tables select c =
-    left-holds (SameTables c) _ 0 c _ (refl, refl) (moved-keeps-tables (registerAt select) c)
+    left-holds (SameTables c) _ 0 c _ (refl, refl) (λ e. moved-keeps-tables (registerAt select) c)

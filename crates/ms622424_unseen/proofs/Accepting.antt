@@ -11,7 +11,10 @@ use Rattle.vocabulary.proofs.Range.{holds-passes}
 use Rattle.ms622424.specs.Ms622424
 use Rattle.ms622424.specs.Ms622424.{Chip, Sound, ranges, palette, initialization, registerAt, writable, readable}
 use Rattle.ms622424.specs.Ms622424.{written, answers, moves, pixelRefusals}
-use Rattle.ms622424.proofs.Access.{goes-on, lengths-right, write-does, read-does, blank-does}
+use Rattle.ms622424.proofs.Access.{goes-on, lengths-right}
+use Rattle.ms622424.proofs.Write.{write-does}
+use Rattle.ms622424.proofs.Read.{read-does}
+use Rattle.ms622424.proofs.Blank.{blank-does}
 use Rattle.ms622424_unseen.specs.Unseen.{write, read, blank, pixel, outcome, Accepted, left}
 
 -- a byte for the palette, outside read mode

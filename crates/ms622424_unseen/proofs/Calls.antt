@@ -9,13 +9,12 @@ use lib.Dec.{eqb}
 use Rattle.vocabulary.specs.Choice.{pick}
 use Rattle.vocabulary.specs.Refusal.{refusalOf}
 use Rattle.vocabulary.specs.Outcome.{Outcome, answeredAt}
-use Rattle.vocabulary.proofs.Outcome.{accepted-does}
+use Rattle.vocabulary.proofs.Outcome.{accepted-does, left-holds}
 use Rattle.ms622424.specs.Ms622424
 use Rattle.ms622424.specs.Ms622424.{Chip, Entry, allStored, Register, isPalette, registerAt, completed, written}
 use Rattle.ms622424.specs.Ms622424.{writeRefusals}
 use Rattle.ms622424_unseen.specs.Unseen.{Call, write, read, blank, pixel, sync, reset, outcome, Accepted, left}
 use Rattle.ms622424_unseen.specs.Unseen.{completedBy, settled}
-use Rattle.ms622424_unseen.proofs.Accepted.{left-holds-if}
 use Rattle.ms622424_unseen.proofs.Range.{blank-sound, write-sound}
 use Rattle.ms622424_unseen.proofs.Settled.{written-settled, answers-settled, moves-settled}
 
@@ -68,7 +67,7 @@ write-settled select byte c =
 -- a call that completes nothing, and that leaves the settled map where no refusal stands
 unsettled : (n : ℕ) (c : Chip) (done : Outcome Chip) → (n ≡ 0 → settled (done .left) ≡ settled c)
     → settled (answeredAt n 0 c done .left) ≡ settled c
-unsettled n c done h = left-holds-if (λ (d : Chip). settled d ≡ settled c) n 0 c done refl h
+unsettled n c done h = left-holds (λ (d : Chip). settled d ≡ settled c) n 0 c done refl h
 
 pub call-settled : (call : Call) (c : Chip) → ¬ ((call ≡ reset) × Accepted call c)
     → settled (left call c) ≡ allStored (completedBy call c) (settled c)

@@ -11,14 +11,14 @@ use lib.ListN.{length}
 use Rattle.vocabulary.specs.Outcome.{Outcome}
 use Rattle.vocabulary.proofs.Choice.{picks-second}
 use Rattle.vocabulary.proofs.Range.{passes-holds}
-use Rattle.vocabulary.proofs.Outcome.{accepted-does}
+use Rattle.vocabulary.proofs.Outcome.{accepted-does, accepted-none}
+use Rattle.vocabulary.proofs.Refusal.{none-exactly}
 use Rattle.ms622424.specs.Ms622424
 use Rattle.ms622424.specs.Ms622424.{Chip, Entry, waitingColours, every, Sound, keptRanges, places, selected, stepped}
 use Rattle.ms622424.specs.Ms622424.{complete, completed, latched, written, Moves, moves, roomMade, resetRefusals}
 use Rattle.ms622424.proofs.Every.{both, pair, every-append, every-one}
 use Rattle.ms622424.proofs.Waiting.{complete-waiting}
 use Rattle.ms622424_unseen.specs.Unseen.{Call, write, reset, outcome, Accepted, left, after}
-use Rattle.ms622424_unseen.proofs.Accepted.{accepted-none, refusal-clear}
 use Rattle.ms622424_unseen.proofs.Range.{taken}
 use Rattle.ms622424_unseen.proofs.Kept.{sound-fresh, call-sound}
 use Rattle.ms622424_unseen.proofs.Accepting.{palette-accepted}
@@ -92,6 +92,6 @@ pub fresh-filling : (c : Chip) → Accepted reset c → length (c .map) ≡ 2457
 unfolding outcome Ms622424.reset waitingColours every
 fresh-filling c a m =
     let e = accepted-none _ 0 c _ a in
-    let kept = passes-holds (keptRanges (c .state)) (refusal-clear (resetRefusals c) e .1 .0) in
+    let kept = passes-holds (keptRanges (c .state)) (none-exactly (resetRefusals c) e .1 .0) in
     subst (λ (o : Outcome Chip). Sound (o .left) × Filling 0 (o .left)) (sym (accepted-does 0 c _ e))
     (sound-fresh c m kept, record { writing = refl; bytes = refl; placed = refl; waits = refl })

@@ -5,11 +5,12 @@ use native.Mathlib.Omega.{arith}
 use lib.ListN.{length, replicate}
 use Rattle.vocabulary.specs.Range.{Holds}
 use Rattle.vocabulary.proofs.Range.{passes-holds}
+use Rattle.vocabulary.proofs.Outcome.{left-holds}
+use Rattle.vocabulary.proofs.Refusal.{none-exactly}
 use Rattle.ms622424.specs.Ms622424
 use Rattle.ms622424.specs.Ms622424.{Chip, chip, waitingColours, every, Sound, keptRanges, Register, Colour, selected}
 use Rattle.ms622424.specs.Ms622424.{latched, written, answers, Moves, places, fresh, registerAt, resetRefusals}
 use Rattle.ms622424_unseen.specs.Unseen.{Call, write, read, blank, pixel, sync, reset, outcome, left}
-use Rattle.ms622424_unseen.proofs.Accepted.{left-holds-if, refusal-clear}
 use Rattle.ms622424_unseen.proofs.Range.{taken, write-sound, sound-port, sound-control, sound-stepped}
 use Rattle.ms622424_unseen.proofs.Range.{sound-buffer, sound-complete, sound-moves, room, moves-fewer}
 
@@ -77,12 +78,12 @@ sound-fresh c m kept =
 pub call-sound : (call : Call) (c : Chip) → Sound c → Sound (left call c)
 unfolding outcome Ms622424.write Ms622424.read Ms622424.blank Ms622424.pixel Ms622424.sync Ms622424.reset
 call-sound (write select byte) c h =
-    left-holds-if Sound _ 0 c _ h
+    left-holds Sound _ 0 c _ h
     (λ e. sound-written (registerAt select) byte c h (write-sound select byte c e .1))
-call-sound (read select) c h = left-holds-if Sound _ 0 c _ h (λ e. sound-answers (registerAt select) c h)
-call-sound (blank slots) c h = left-holds-if Sound _ 0 c _ h (λ e. sound-moves slots c h)
-call-sound (pixel mode word) c h = left-holds-if Sound _ 0 c _ h (λ e. h)
-call-sound (sync signals) c h = left-holds-if Sound _ 0 c _ h (λ e. h)
+call-sound (read select) c h = left-holds Sound _ 0 c _ h (λ e. sound-answers (registerAt select) c h)
+call-sound (blank slots) c h = left-holds Sound _ 0 c _ h (λ e. sound-moves slots c h)
+call-sound (pixel mode word) c h = left-holds Sound _ 0 c _ h (λ e. h)
+call-sound (sync signals) c h = left-holds Sound _ 0 c _ h (λ e. h)
 call-sound reset c h =
     let (_, m, _) = h in
-    left-holds-if Sound _ 0 c _ h (λ e. sound-fresh c m (passes-holds _ (refusal-clear (resetRefusals c) e .1 .0)))
+    left-holds Sound _ 0 c _ h (λ e. sound-fresh c m (passes-holds _ (none-exactly (resetRefusals c) e .1 .0)))

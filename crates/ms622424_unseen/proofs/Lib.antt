@@ -1,4 +1,3 @@
-pub mod Accepted
 pub mod Range
 pub mod Settled
 pub mod Calls

@@ -12,6 +12,7 @@ use Rattle.vocabulary.specs.Range.{below, Holds}
 use Rattle.vocabulary.specs.Refusal.{refusalOf}
 use Rattle.vocabulary.proofs.Choice.{picks-first, picks-second, cases}
 use Rattle.vocabulary.proofs.Range.{passes-holds}
+use Rattle.vocabulary.proofs.Refusal.{none-exactly}
 use Rattle.ms622424.specs.Ms622424
 use Rattle.ms622424.specs.Ms622424.{Chip, chip, port, control, queued, withState, held, waitingColours, every, inMap}
 use Rattle.ms622424.specs.Ms622424.{isZero, Sound, Colour, stepped, bufferStepped, latched, complete, completed}
@@ -20,7 +21,6 @@ use Rattle.ms622424.specs.Ms622424.{blankRefusals}
 use Rattle.ms622424.proofs.Every.{both, pair, every-append, every-one}
 use Rattle.ms622424.proofs.Places.{all-stored-length}
 use Rattle.ms622424.proofs.Waiting.{complete-waiting, movesOf, moves-least, moves-waiting}
-use Rattle.ms622424_unseen.proofs.Accepted.{refusal-clear}
 
 -- a byte for the palette, with room in the queue: latched, and the counter moved
 abbrev pub taken : Colour → ℕ → Chip → Chip
@@ -32,13 +32,13 @@ sound c e r = let t = passes-holds _ e in (t .0, t .1 .0, r)
 
 pub write-sound : (select byte : ℕ) (c : Chip) → refusalOf (writeRefusals select byte c) ≡ 0 → Sound c × (byte < 256)
 write-sound select byte c e =
-    let t = refusal-clear (writeRefusals select byte c) e in
+    let t = none-exactly (writeRefusals select byte c) e in
     let r = passes-holds (below byte 256 ∷ ranges c) (t .1 .0) in
     (sound c (t .0) (r .1), r .0)
 
 pub blank-sound : (slots : ℕ) (c : Chip) → refusalOf (blankRefusals slots c) ≡ 0 → Sound c
 blank-sound slots c e =
-    let t = refusal-clear (blankRefusals slots c) e in
+    let t = none-exactly (blankRefusals slots c) e in
     sound c (t .0) (passes-holds (below slots 65536 ∷ ranges c) (t .1 .0) .1)
 
 -- ---- with other numbers in the state, and as many waiting

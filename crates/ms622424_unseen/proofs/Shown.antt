@@ -10,14 +10,14 @@ use lib.ListN.{getD, set}
 use lib.Seq.{getD-set-other}
 use Rattle.vocabulary.specs.Refusal.{refusalOf}
 use Rattle.vocabulary.specs.Outcome.{Outcome}
-use Rattle.vocabulary.proofs.Outcome.{accepted-does}
+use Rattle.vocabulary.proofs.Outcome.{accepted-does, accepted-none}
+use Rattle.vocabulary.proofs.Refusal.{none-exactly}
 use Rattle.ms622424.specs.Ms622424
 use Rattle.ms622424.specs.Ms622424.{Chip, Entry, waitingColours, stored, allStored, registerAt, Colour, gun}
 use Rattle.ms622424.specs.Ms622424.{entryShown, gunShown, every, answers, readRefusals}
 use Rattle.ms622424.proofs.Every.{both}
 use Rattle.ms622424_unseen.specs.Unseen.{read, pixel, outcome, Accepted, settled, shown, ReadsNoWaiting}
 use Rattle.ms622424_unseen.specs.Unseen.{component}
-use Rattle.ms622424_unseen.proofs.Accepted.{accepted-none, refusal-clear}
 
 -- ---- a pixel
 gun-byte : (k : Colour) → gun k < 3
@@ -74,7 +74,7 @@ settled-empty c e = rw (none-waiting c e)
 read-waiting : (c : Chip) → refusalOf (readRefusals 2 c) ≡ 0 → c .state .waiting ≡ 0
 unfolding registerAt
 read-waiting c e =
-    let t = refusal-clear (readRefusals 2 c) e in
+    let t = none-exactly (readRefusals 2 c) e in
     eqb-true (c .state .waiting) 0 (not-false _ (t .1 .1 .1 .1 .1 .0))
 
 pub read-component : (c : Chip) → Accepted (read 2) c

@@ -2,13 +2,12 @@
 use mathlib.Core.Path.{_≡_, refl, sym, ap, _∙_}
 use mathlib.Core.List.{List, [], _∷_}
 use Rattle.vocabulary.specs.Outcome.{Outcome}
-use Rattle.vocabulary.proofs.Outcome.{accepted-does}
+use Rattle.vocabulary.proofs.Outcome.{accepted-does, accepted-none, left-holds}
 use Rattle.ms622424.specs.Ms622424
 use Rattle.ms622424.specs.Ms622424.{Chip, allStored}
 use Rattle.ms622424.proofs.Places.{all-stored-append}
 use Rattle.ms622424_unseen.specs.Unseen.{Call, reset, outcome, Accepted, left, after, NoReset, completedBy}
 use Rattle.ms622424_unseen.specs.Unseen.{completedIn, settled, immediate, shown, component, QueueUnseen}
-use Rattle.ms622424_unseen.proofs.Accepted.{accepted-none, left-holds-if}
 use Rattle.ms622424_unseen.proofs.Calls.{call-settled}
 use Rattle.ms622424_unseen.proofs.Shown.{settled-empty, pixel-shown, read-component}
 
@@ -22,11 +21,7 @@ run-settled (call ∷ calls) c (h, hs) =
     ∙ (ap (allStored (completedIn calls (left call c))) (call-settled call c h)
     ∙ sym (all-stored-append (completedBy call c) (completedIn calls (left call c)) (settled c)))
 
--- ---- just after an accepted reset nothing waits, and the map is as it was
-pub reset-keeps-map : (c : Chip) → left reset c .map ≡ c .map
-unfolding outcome Ms622424.reset
-reset-keeps-map c = left-holds-if (λ (d : Chip). d .map ≡ c .map) _ 0 c _ refl (λ e. refl)
-
+-- ---- just after an accepted reset nothing waits
 reset-empty : (c : Chip) → Accepted reset c → left reset c .state .waiting ≡ 0
 unfolding outcome Ms622424.reset
 reset-empty c a =
