@@ -1,0 +1,5 @@
+pub mod Stored
+pub mod Count
+pub mod Lent
+pub mod Turn
+pub mod Ends
