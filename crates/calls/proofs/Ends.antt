@@ -28,9 +28,9 @@ abbrev before : List Refusal
 before = lentLength ∷ outOfRange ∷ noAccess ∷ noIndex ∷ readMode ∷ stillWaiting ∷ overFifteen ∷ []
 
 -- a bad sheet is refusal 8, with its line
-bad-by : (t out : List ℕ) (n : ℕ) → bad (suc n) ≡ sheetOf t → outcome (Refused 8 (suc n)) out ≡ sheetToCalls t out
+pub malformed-eight : (t out : List ℕ) (n : ℕ) → bad (suc n) ≡ sheetOf t → outcome (Refused 8 (suc n)) out ≡ sheetToCalls t out
 unfolding sheetToCalls
-bad-by t out n e =
+malformed-eight t out n e =
     rw (sym e)
     (sym (refused-as 7 (suc n) out _
     (refusal-is (callRefusals (bad (suc n)) out) before malformed _ refl (refl, (refl, (refl, (refl, (refl, (refl, (refl, tt)))))))
@@ -39,7 +39,7 @@ bad-by t out n e =
 pub refused-bad : (t out : List ℕ) (n : ℕ) (kept : List ℕ) → readingOf n kept ≡ sheetOf t → (n ≡ 0 → ⊥)
     → outcome (Refused 8 n) out ≡ sheetToCalls t out
 refused-bad t out zero kept e h = absurd (h refl)
-refused-bad t out (suc n) kept e h = bad-by t out n e
+refused-bad t out (suc n) kept e h = malformed-eight t out n e
 
 pub is-good : (t : List ℕ) (n : ℕ) (kept : List ℕ) → readingOf n kept ≡ sheetOf t → n ≡ 0
     → good (map lineFor kept) ≡ sheetOf t

@@ -3,3 +3,4 @@ pub mod Count
 pub mod Lent
 pub mod Turn
 pub mod Ends
+pub mod Rules

@@ -93,10 +93,10 @@ fn table_calls(kept: &[u16], select: u8, out: &mut [u8]) -> usize
 }
 
 // How many calls an entry has.
-fn entry_count(follows: bool, kept: u16) -> usize
-    ensures { λ r. ⌜ (r ≡ entryCount follows (lineFor kept)) × (r < 5) ⌝ }
+fn entry_count(follows: bool, x: u16) -> usize
+    ensures { λ r. ⌜ (r ≡ entryCount follows (lineFor x)) × (r < 5) ⌝ }
 {
-    if 4096 <= kept {
+    if 4096 <= x {
         return 0;
     }
     if follows {
@@ -112,11 +112,11 @@ fn table_count(kept: &[u16]) -> usize
 {
     let mut entry: usize = 0;
     let mut count: usize = 0;
-    let mut follows = false;
+    let mut joined = false;
     while entry < kept.len() {
         let x = kept[entry];
-        count += entry_count(follows, x);
-        follows = x < 4096;
+        count += entry_count(joined, x);
+        joined = x < 4096;
         entry += 1;
     }
     count

@@ -10,10 +10,12 @@ use Rattle.hd153108.specs.Hd153108.{Chip, Table, colour, overlay, size, tableOf
 use Rattle.sheet.specs.declared.Line.{Line}
 use Rattle.sheet.specs.declared.Line.the-variants.{Has, Missing}
 use Rattle.sheet.specs.Sheet.{sheetOf, good, coloursIn, values, chipLines, textOf, overFifteenIn}
-use Rattle.load.specs.Load.{InRange, Writing, entriesOf, filled, Leaves, LoadsSheets, Writable, Same, LoadsBack}
+use Rattle.sheet_writer.specs.Writer.{Writable}
+use Rattle.sheet_writer.proofs.Values.{length-colours}
+use Rattle.sheet_writer.proofs.Round.{round}
+use Rattle.load.specs.Load.{InRange, Writing, entriesOf, filled, Leaves, LoadsSheets, Same, LoadsBack}
 use Rattle.load.proofs.Writes.{table-length}
-use Rattle.load.proofs.Colours.{length-colours, listed}
-use Rattle.load.proofs.Round.{written-reads}
+use Rattle.load.proofs.Colours.{listed}
 use Rattle.load.proofs.Load.{load}
 
 -- tables with equal entries are equal
@@ -60,29 +62,35 @@ same-tables : (a b : Chip) → InRange a → InRange b
 same-tables a b g h f t =
     same-entries (size t) (tableOf t a) (tableOf t b) (table-length t a g) (table-length t b h) (f t)
 
+pub writable-in-range : (a : Chip) → Writable a → InRange a
+writable-in-range a w = record { tables = (w .colours, (w .overlays, tt)); state = w .state }
+
 module _ (a b after : Chip) (w : Writable a) (l : Leaves (chipLines a) b after) where
+  range : InRange a
+  range = writable-in-range a w
+
   low-table : (t : Table) → overFifteenIn (tableOf t a) ≡ false
-  low-table colour = w .colours
-  low-table overlay = w .overlays
+  low-table colour = w .low-colours
+  low-table overlay = w .low-overlays
 
   same-entry : (t : Table) (e : ℕ) → e < size t → colourAt e (tableOf t a) ≡ colourAt e (tableOf t after)
   unfolding listing
   same-entry t e h =
-      let n = table-length t a (w .inRange) in
+      let n = table-length t a range in
       sym (l .entries t e
-      ∙ (ap (λ (x : List Line). filled (getD x e Missing) (colourAt e (tableOf t b))) (chip-entries a (w .inRange) t)
+      ∙ (ap (λ (x : List Line). filled (getD x e Missing) (colourAt e (tableOf t b))) (chip-entries a range t)
       ∙ listed (tableOf t a) e _ (low-table t) (omega arith)))
 
   returned : Same a after
   unfolding values
   returned =
-      let tables = same-tables a after (w .inRange) (l .inRange) same-entry in
+      let tables = same-tables a after range (l .inRange) same-entry in
       record { registers = sym (l .registers); colours = tables colour; overlays = tables overlay }
 
 -- What loads every sheet loads back.
 pub load-returns : (w : Writing) → LoadsSheets w → LoadsBack w
 load-returns w loads a b p g =
-    let e : sheetOf (textOf a) ≡ good (chipLines a) = written-reads a p in
+    let e : sheetOf (textOf a) ≡ good (chipLines a) = round a p in
     let m = loads (textOf a) (chipLines a) b e g in
     record { reads = rw e; accepted = rw e (m .accepted); same = rw e (returned a b _ p (m .leaves)) }
 

@@ -14,16 +14,19 @@ use Rattle.hd153108.specs.Hd153108.{Chip}
 use Rattle.sheet.specs.declared.Line.{Line}
 use Rattle.sheet.specs.Sheet.{sheetOf, good, textOf, overFifteenIn, pasted, writeRefusals, write}
 use Rattle.calls.specs.Calls.{Call, call, callsOf, callBytes, callRefusals, sheetToCalls}
-use Rattle.load.specs.Load.{Writable}
+use Rattle.sheet_writer.specs.Writer.{Writable}
+use Rattle.load.proofs.Back.{writable-in-range}
 
 -- a chip becomes its sheet, in a buffer that has the room
 pub chip-becomes-sheet : (a : Chip) (out : List ℕ) → Writable a → length (textOf a) ≤ length out
     → write a out ≡ accepting 0 (length (textOf a)) (pasted out 0 (textOf a))
 unfolding write
 chip-becomes-sheet a out w h =
-    let low : (overFifteenIn (a .colours) || overFifteenIn (a .overlays)) ≡ false = rw (w .colours) (w .overlays) in
-    let lengths = holds-passes _ (w .inRange .tables) in
-    let ranges = holds-passes _ (w .inRange .state) in
+    let low : (overFifteenIn (a .colours) || overFifteenIn (a .overlays)) ≡ false =
+    rw (w .low-colours) (w .low-overlays) in
+    let g = writable-in-range a w in
+    let lengths = holds-passes _ (g .tables) in
+    let ranges = holds-passes _ (g .state) in
     accepted-does 0 out _ (refusal-none (writeRefusals a out) (lengths, (ranges, (low, (le-ltb _ _ h, tt)))))
 
 -- a sheet becomes its calls, in a buffer that has the room

@@ -8,11 +8,12 @@ use Rattle.hd153108.specs.Hd153108.{Chip, chip, clock, Table, colour, overlay, 
 use Rattle.sheet.specs.declared.Line.{Line}
 use Rattle.sheet.specs.declared.Line.the-variants.{Has, Missing}
 use Rattle.sheet.specs.Sheet.{sheetOf, linesOf, overFifteenIn, redOf, greenOf, blueOf, textOf}
+use Rattle.sheet_writer.specs.Writer.{Writable}
+use Rattle.sheet_writer.proofs.Round.{round}
 use Rattle.calls.specs.Calls.{Call, registerCalls, callsOf}
 use Rattle.load.specs.Load.{InRange, Writing, made, refusals, AllAccepted, registerLines, entriesOf, filled}
-use Rattle.load.specs.Load.{Loads, LoadsSheets, Writable, Same}
+use Rattle.load.specs.Load.{Loads, LoadsSheets, Same}
 use Rattle.load.proofs.Grammar.{Registers, good-lines}
-use Rattle.load.proofs.Round.{written-reads}
 use Rattle.load.proofs.Back.{load-returns}
 
 module _ (w : Writing) where
@@ -59,11 +60,7 @@ dark = record { tables = (refl, (refl, tt)); state = omega arith }
 
 bright : Writable (bytes 1)
 unfolding bytes overFifteenIn
-bright = record {
-  inRange = record { tables = (refl, (refl, tt)); state = omega arith };
-  colours = refl;
-  overlays = refl;
-}
+bright = record { colours = refl; overlays = refl; low-colours = refl; low-overlays = refl; state = omega arith }
 
 -- the calls of the one's sheet
 brightCalls : List Call
@@ -106,6 +103,6 @@ module _ (w : Writing) (loads : LoadsSheets w) where
   pub must-accept : ((select b : ℕ) (c : Chip) → w select b c .refusal ≡ 0 → ⊥) → ⊥
   unfolding callsOf
   must-accept h =
-      let e = written-reads (bytes 1) bright in
+      let e = round (bytes 1) bright in
       let m = loads _ _ (bytes 0) e dark in
       h 4 _ (bytes 0) (accepted-first (good-lines _ _ e .registers) _ (bytes 0) (m .accepted))

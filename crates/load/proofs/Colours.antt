@@ -1,45 +1,27 @@
 -- A table's colours, as the writer lists them: three bytes below 16 and one value. Assumes nothing.
-use Prim.Native.Nat.{ℕ, zero, suc, _+_, _*_, _≤_}
-use mathlib.Core.Path.{_≡_, refl, ap}
+use Prim.Native.Nat.{ℕ, zero, suc, _+_, _*_, _<_, _≤_}
+use mathlib.Core.Path.{_≡_}
 use mathlib.Core.List.{List, [], _∷_, map}
-use mathlib.Core.Bool.{Bool, true, false, _||_}
+use mathlib.Core.Bool.{false}
 use native.Mathlib.Omega.{arith}
-use borrow.Author.Tests.{ltb-false}
 use lib.ListN.{length, getD}
-use Rattle.vocabulary.proofs.Range.{clash}
 use Rattle.hd153108.specs.Hd153108.{colourAt}
 use Rattle.sheet.specs.declared.Line.the-variants.{Has, Missing}
 use Rattle.sheet.specs.Sheet.{coloursIn, overFifteenIn, redOf, greenOf, blueOf}
+use Rattle.sheet_writer.proofs.Values.{low-first}
 use Rattle.load.specs.Load.{filled}
 
--- an entry's bytes are at most 15, and so are those behind it
-neither : (b c : Bool) → (b || c) ≡ false → (b ≡ false) × (c ≡ false)
-neither true c e = clash e
-neither false c e = (refl, e)
-
-low : (x : ℕ) (t : List ℕ) → overFifteenIn (x ∷ t) ≡ false → (x ≤ 15) × (overFifteenIn t ≡ false)
-unfolding overFifteenIn
-low x t e = let n = neither _ _ e in (ltb-false 15 x (n .0), n .1)
-
-pub low-entry : (r g b : ℕ) (t : List ℕ) → overFifteenIn (r ∷ g ∷ b ∷ t) ≡ false
-    → (r ≤ 15) × (g ≤ 15) × (b ≤ 15) × (overFifteenIn t ≡ false)
+-- an entry's bytes are below 16, and so are those behind it
+low-entry : (r g b : ℕ) (t : List ℕ) → overFifteenIn (r ∷ g ∷ b ∷ t) ≡ false
+    → (r < 16) × (g < 16) × (b < 16) × (overFifteenIn t ≡ false)
 low-entry r g b t o =
-    let lr = low r _ o in
-    let lg = low g _ (lr .1) in
-    let lb = low b t (lg .1) in
+    let lr = low-first r _ o in
+    let lg = low-first g _ (lr .1) in
+    let lb = low-first b t (lg .1) in
     (lr .0, lg .0, lb .0, lb .1)
 
-pub length-colours : (n : ℕ) (t : List ℕ) → length t ≡ 3 * n → length (coloursIn t) ≡ n
-unfolding coloursIn
-length-colours zero [] e = refl
-length-colours zero (r ∷ t) e = absurd (let z : ⊥ = omega arith in z)
-length-colours (suc n) [] e = absurd (let z : ⊥ = omega arith in z)
-length-colours (suc n) (r ∷ []) e = absurd (let z : ⊥ = omega arith in z)
-length-colours (suc n) (r ∷ g ∷ []) e = absurd (let z : ⊥ = omega arith in z)
-length-colours (suc n) (r ∷ g ∷ b ∷ t) e = ap suc (length-colours n t (omega arith))
-
 -- a colour's components are the entry's bytes
-components : (r g b : ℕ) → r ≤ 15 → g ≤ 15 → b ≤ 15
+components : (r g b : ℕ) → r < 16 → g < 16 → b < 16
     → filled (Has ((r * 16 + g) * 16 + b)) [] ≡ r ∷ g ∷ b ∷ []
 components r g b hr hg hb =
     let v = (r * 16 + g) * 16 + b in

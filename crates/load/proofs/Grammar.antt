@@ -19,7 +19,7 @@ use Rattle.load.specs.Load.{entriesOf}
 
 -- ---- parts of lawful lines
 
-pub one-on : (k n : ℕ) → k + suc n ≡ k + 1 + n
+one-on : (k n : ℕ) → k + suc n ≡ k + 1 + n
 one-on k n = omega arith
 
 lawful-drop : (n k : ℕ) (l : List Line) → Lawful k l → Lawful (k + n) (drop n l)

@@ -7,7 +7,6 @@ pub mod Entries
 pub mod Registers
 pub mod Load
 pub mod Colours
-pub mod Round
 pub mod Back
 pub mod Cheats
 pub mod Buffers

@@ -4,7 +4,6 @@
 -- sentence, `LoadsBack` the second; the theorems are `load` (proofs/Load.antt) and `back` (proofs/Back.antt).
 use Prim.Native.Nat.{ℕ}
 use mathlib.Core.Path.{_≡_}
-use mathlib.Core.Bool.{false}
 use mathlib.Core.List.{List, [], _∷_}
 use lib.ListN.{length, getD, replicate}
 use Rattle.vocabulary.specs.Range.{Holds}
@@ -14,7 +13,8 @@ use Rattle.hd153108.specs.Hd153108.{Chip, Table, colour, overlay, tableOf, colo
 use Rattle.sheet.specs.declared.Line.{Line}
 use Rattle.sheet.specs.declared.Line.the-variants.{Has, Missing}
 use Rattle.sheet.specs.Sheet.{sheetOf, good, linesOf, registersOf, overlaysOf, coloursOf, redOf, greenOf, blueOf}
-use Rattle.sheet.specs.Sheet.{textOf, overFifteenIn}
+use Rattle.sheet.specs.Sheet.{textOf}
+use Rattle.sheet_writer.specs.Writer.{Writable}
 use Rattle.calls.specs.Calls.{Call, callsOf}
 
 -- ---- "any state and tables within A's ranges and lengths"
@@ -80,10 +80,7 @@ LoadsSheets w =
 
 -- ---- "A's colours and registers, where no table byte is over 15, become a sheet that loads back equal"
 
-pub record Writable (a : Chip) : Type 0 where
-  pub inRange : InRange a
-  pub colours : overFifteenIn (a .colours) ≡ false
-  pub overlays : overFifteenIn (a .overlays) ≡ false
+-- which chips the writer takes is `Writable` (Writer.antt of sheet_writer): in range, and no table byte over 15
 
 -- equal registers, colours and overlays
 pub record Same (a b : Chip) : Type 0 where

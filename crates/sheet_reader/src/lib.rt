@@ -76,8 +76,8 @@ pub fn read(text: &[u8]) -> Sheet
         due = k + 1;
         n += 1;
     }
-    if due < 5 {
-        return Sheet { bad: n, kept };
+    if 5 <= due {
+        return Sheet { bad: 0, kept };
     }
-    Sheet { bad: 0, kept }
+    Sheet { bad: n, kept }
 }

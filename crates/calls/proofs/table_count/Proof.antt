@@ -13,12 +13,12 @@ use Rattle.calls.proofs.table_count.Statement.{statement}
 use Rattle.calls.proofs.table_count.Tie as tie
 
 abbrev Inv-loop : tie.InvT-loop
-Inv-loop kept entry₀ count₀ follows₀ entry count follows =
+Inv-loop kept entry₀ count₀ joined₀ entry count joined =
     (entry ≤ length kept) × (count ≤ 4 * entry)
-    × (count + tableCount follows (map lineFor (drop entry kept)) ≡ tableCount false (map lineFor kept))
+    × (count + tableCount joined (map lineFor (drop entry kept)) ≡ tableCount false (map lineFor kept))
 
 abbrev μ-loop : tie.MeasureT-loop
-μ-loop kept entry₀ count₀ follows₀ entry count follows = length kept - entry
+μ-loop kept entry₀ count₀ joined₀ entry count joined = length kept - entry
 
 loop-holds : tie.Need-loop-holds Inv-loop μ-loop
 loop-holds c = (search needs, search needs, omega arith)
@@ -46,13 +46,13 @@ loop-again c =
     let l = c .before .before .before .loop in (
       search needs,
       search needs,
-      rw (kept-there _) (omega (arith, counts-on (c .before .before .before .before .before .args .kept .now) (l .entry) (l .follows) (search needs))),
+      rw (kept-there _) (omega (arith, counts-on (c .before .before .before .before .before .args .kept .now) (l .entry) (l .joined) (search needs))),
     )
 
 returns : tie.Need-returns Inv-loop μ-loop
 returns c =
     let l = c .before .loop in
-    (omega (arith, counts-none (c .before .before .before .args .kept .now) (l .entry) (l .follows) (search needs)), search needs)
+    (omega (arith, counts-none (c .before .before .before .args .kept .now) (l .entry) (l .joined) (search needs)), search needs)
 
 pub table-count-spec : {M : Type 1} → statement M
 table-count-spec =
