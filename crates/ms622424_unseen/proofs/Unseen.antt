@@ -2,7 +2,7 @@
 use mathlib.Core.Path.{_≡_, refl, sym, ap, _∙_}
 use mathlib.Core.List.{List, [], _∷_}
 use Rattle.vocabulary.specs.Outcome.{Outcome}
-use Rattle.vocabulary.proofs.Outcome.{accepted-does, accepted-none, left-holds}
+use Rattle.vocabulary.proofs.Outcome.{accepted-does, accepted-none}
 use Rattle.ms622424.specs.Ms622424
 use Rattle.ms622424.specs.Ms622424.{Chip, allStored}
 use Rattle.ms622424.proofs.Places.{all-stored-append}
