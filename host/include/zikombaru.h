@@ -58,5 +58,6 @@ uint64_t zk_expand6(uint32_t component);
 #include "zikombaru_hd153108.h"
 #include "zikombaru_ms622424.h"
 #include "zikombaru_rgb640.h"
+#include "zikombaru_sheet.h"
 
 #endif
