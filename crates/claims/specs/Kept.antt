@@ -1,0 +1,20 @@
+-- A call on a chip in range leaves it in range, so that a chip never locks itself out: the chips together.
+-- What is in range is what refusals 1 and 9 test. A byte is one that its type holds.
+use Prim.Native.Nat.{ℕ, _<_}
+use Rattle.vocabulary.specs.Range.{Holds}
+use Rattle.hd153108.specs.declared.Clock.{Clock}
+use Rattle.hd153108.specs.declared.State.{State}
+use Rattle.hd153108.specs.Hd153108
+use Rattle.load.specs.Load.{InRange}
+use Rattle.ms622424.specs.Ms622424
+use Rattle.ms622424_unseen.specs.Unseen
+
+pub record NeverLockedOut : Type 0 where
+  -- chip A, whatever is written or read, and its clock; a reset's state is in range from any state at all
+  pub a-write : (select byte : ℕ) (c : Hd153108.Chip) → byte < 256 → InRange c
+      → InRange (Hd153108.write select byte c .left)
+  pub a-read : (select : ℕ) (c : Hd153108.Chip) → InRange c → InRange (Hd153108.read select c .left)
+  pub a-tick : (k : Clock) → Holds (Hd153108.clockRanges k) → Holds (Hd153108.clockRanges (Hd153108.tick k .left))
+  pub a-reset : (s : State) → Holds (Hd153108.ranges (Hd153108.reset s .left))
+  -- chip B, any call
+  pub b-call : (call : Unseen.Call) (c : Ms622424.Chip) → Ms622424.Sound c → Ms622424.Sound (Unseen.left call c)

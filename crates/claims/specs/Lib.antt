@@ -1,0 +1,7 @@
+pub mod Edges
+pub mod Judged
+pub mod Determined
+pub mod Kept
+pub mod MovesA
+pub mod MovesB
+pub mod MovesC
