@@ -8,18 +8,22 @@ mod queue;
 mod show;
 
 fn main() {
-    port::registers();
-    port::buffer();
-    port::read_mode();
-    queue::thresholds();
-    queue::forced();
-    queue::twice();
-    queue::wrap();
-    port::pixels();
-    port::signals();
-    edges::accesses();
+    let mut queue = [0u64; 64];
+    let mut map = [0u8; 24576];
+    port::registers(&mut queue, &mut map);
+    port::buffer(&mut queue, &mut map);
+    port::read_mode(&mut queue, &mut map);
+    queue::thresholds(&mut queue, &mut map);
+    queue::forced(&mut queue, &mut map);
+    queue::twice(&mut queue, &mut map);
+    queue::wrap(&mut queue, &mut map);
+    port::pixels(&mut queue, &mut map);
+    port::signals(&mut queue, &mut map);
+    edges::accesses(&mut queue, &mut map);
+    edges::arguments(&mut queue, &mut map);
     edges::lengths();
+    edges::map_lengths();
     edges::states();
+    edges::queues();
     edges::resets();
-    edges::arguments();
 }
