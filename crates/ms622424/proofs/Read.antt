@@ -1,5 +1,5 @@
 -- Laws of a read: what an accepted one answers, and when it is refused. Assumes nothing.
-use Prim.Native.Nat.{ℕ, zero, suc, _-_}
+use Prim.Native.Nat.{ℕ, zero, suc}
 use mathlib.Core.Path.{_≡_, refl, sym, ap, _∙_}
 use mathlib.Core.Bool.{true, false, not, _&&_}
 use mathlib.Core.List.{[], _∷_}
@@ -57,13 +57,13 @@ module _ (c : Chip) (h : Sound c) where
   unfolding read registerAt readable
   read-waiting select e f g =
       rw e
-      (stops (readRefusals 2 c) c _ (lentLength ∷ outOfRange ∷ noAccess ∷ noIndex ∷ readMode ∷ []) stillWaiting 5 _
-      refl refl
+      (stops (readRefusals 2 c) c _ (lentLength ∷ outOfRange ∷ noAccess ∷ noIndex ∷ readMode ∷ []) stillWaiting 5
+      _ refl refl
       (lengths-right c h, (ranges-right c h, (refl, (refl, (ne-eqb _ 0 f, tt))))) (ap not (ne-eqb _ 0 g)))
 
   -- the buffer at red and at green
-  pub read-buffer : (select : ℕ) (k : Colour) → select ≡ 5 → selected (c .state .counter) ≡ k → readable buffer k
-      ≡ true
+  pub read-buffer : (select : ℕ) (k : Colour) → select ≡ 5 → selected (c .state .counter) ≡ k
+      → readable buffer k ≡ true
       → accepting (bufferByte k (c .state)) 0 (withState (bufferStepped k (c .state)) c) ≡ read select c
   unfolding registerAt answers
   read-buffer select k e f r =
@@ -78,8 +78,8 @@ unfolding registerAt readable
 buffer-at-blue select counter e f = rw (e, f)
 
 pub not-read : (select : ℕ) (k : Colour) → (select ≡ 0 → ⊥) → (select ≡ 1 → ⊥) → (select ≡ 2 → ⊥) → (select ≡ 3 → ⊥)
-    → (select ≡ 4 → ⊥) → (select ≡ 5 → ⊥) → (select ≡ 6 → ⊥) → (select ≡ 7 → ⊥) → readable (registerAt select) k
-    ≡ false
+    → (select ≡ 4 → ⊥) → (select ≡ 5 → ⊥) → (select ≡ 6 → ⊥) → (select ≡ 7 → ⊥)
+    → readable (registerAt select) k ≡ false
 unfolding registerAt readable
 not-read zero k a b d e f g i j = absurd (a refl)
 not-read (suc zero) k a b d e f g i j = absurd (b refl)

@@ -49,8 +49,8 @@ latched-counter blue byte c = refl
 
 -- a palette write makes room, latches and steps
 pub palette-written : (n byte : ℕ) (after c : Chip) (s : State) (q : List ℕ) → made n after ≡ roomMade c
-    → chip s q (after .map) ≡ latched (selected (c .state .counter)) byte after → after .state .counter
-    ≡ c .state .counter
+    → chip s q (after .map) ≡ latched (selected (c .state .counter)) byte after
+    → after .state .counter ≡ c .state .counter
     → accepting 0 n (chip (stepped (selected (s .counter)) s) q (after .map)) ≡ written palette byte c
 unfolding written
 palette-written n byte after c s q e l same =
@@ -59,8 +59,9 @@ palette-written n byte after c s q e l same =
     ap (λ (d : Chip). d .state .counter) l ∙ (latched-counter k byte after ∙ same) in
     ap (λ (x : ℕ). accepting 0 n (chip (stepped (selected x) s) q (after .map))) counter
     ∙ (ap (λ (d : Chip). accepting 0 n (withState (stepped k (d .state)) d)) l
-    ∙ ap (λ (m : Moves). let d = latched k byte (m .after) in
-    accepting 0 (m .count) (withState (stepped k (d .state)) d)) e)
+    ∙ ap
+    (λ (m : Moves). let d = latched k byte (m .after) in accepting 0 (m .count) (withState (stepped k (d .state)) d))
+    e)
 
 module _ (byte : ℕ) (small : byte < 256) (c : Chip) (h : Sound c) where
   inside : fails (below byte 256 ∷ ranges c) ≡ false
@@ -68,11 +69,12 @@ module _ (byte : ℕ) (small : byte < 256) (c : Chip) (h : Sound c) where
 
   -- a register that is written
   pub write-does : (k select : ℕ) {o : Outcome Chip} → select ≡ k → writable (registerAt k) ≡ true
-      → (isPalette (registerAt k) && eqb (c .state .readmode) 1) ≡ false → o ≡ written (registerAt k) byte c → o
-      ≡ write select byte c
+      → (isPalette (registerAt k) && eqb (c .state .readmode) 1) ≡ false → o ≡ written (registerAt k) byte c
+      → o ≡ write select byte c
   unfolding write
   write-does k select e w p d =
-      rw e (d ∙ goes-on (writeRefusals k byte c) c (written (registerAt k) byte c)
+      rw e
+      (d ∙ goes-on (writeRefusals k byte c) c (written (registerAt k) byte c)
       (lengths-right c h, (inside, (ap not w, (p, tt)))))
 
   -- one that is not
