@@ -49,8 +49,8 @@ tried-first rows c done short outside r e f g h =
 -- past it, a call is refused by the first row that is due, or does what it does
 module _ (rows : List Row) (c : Chip) (done : Outcome Chip) where
   pub stops : (before : List Refusal) (r : Refusal) (m : ℕ) (after : List Refusal) → before ++ (r ∷ after) ≡ order
-      → number r ≡ suc m → None (due rows) before → due rows r ≡ true → refusing (suc m) 0 c
-      ≡ answered (refusalOf rows) c done
+      → number r ≡ suc m → None (due rows) before → due rows r ≡ true
+      → refusing (suc m) 0 c ≡ answered (refusalOf rows) c done
   stops before r m after split e h t = sym (refused-as m 0 c done (refusal-is rows before r after split h t ∙ e))
 
   pub goes-on : Clear rows → done ≡ answered (refusalOf rows) c done

@@ -116,8 +116,8 @@ module _ (q : List ℕ) (w bits : ℕ) where
       → ltb bits (2 ^ 37) ≡ every inMap (held (take w q))
   waiting-bits e = let z : w - 0 ≡ w = omega arith in rw z at e ∙ sym (held-in-map (take w q))
 
-  pub unused-bits : (n : ℕ) → length q ≡ n → ltb bits (2 ^ 0)
-      ≡ every (λ (n : ℕ). ltb n (2 ^ 0)) (take (n - w) (drop w q))
+  pub unused-bits : (n : ℕ) → length q ≡ n
+      → ltb bits (2 ^ 0) ≡ every (λ (n : ℕ). ltb n (2 ^ 0)) (take (n - w) (drop w q))
       → eqb bits 0 ≡ every isZero (drop w q)
   unused-bits n l e =
       let t = take-all (n - w) (drop w q) (simp length-drop (omega arith)) in

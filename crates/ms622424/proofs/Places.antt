@@ -15,15 +15,11 @@ use Rattle.ms622424.specs.Ms622424.{Entry, held, unpacked, stored, allSt
 abbrev pub front : ℕ → List ℕ → List ℕ → List ℕ
 front i l q = take i l ++ drop i q
 
-module _ (l q : List ℕ) (i : ℕ) (hl : i ≤ length l) where
-  pub front-length : i ≤ length q → length (front i l q) ≡ length q
-  front-length h = simp (length-append, length-take, length-drop) (omega arith)
-
-  -- behind them q is as it was
-  pub front-rest : (k : ℕ) → getD (front i l q) (i + k) 0 ≡ getD q (i + k) 0
-  front-rest k =
-      ap (λ (n : ℕ). getD (front i l q) (n + k) 0) (sym (length-take-le i l hl))
-      ∙ (getD-append-add (take i l) (drop i q) k 0 ∙ getD-drop i q k 0)
+-- behind them q is as it was
+front-rest : (l q : List ℕ) (i : ℕ) → i ≤ length l → (k : ℕ) → getD (front i l q) (i + k) 0 ≡ getD q (i + k) 0
+front-rest l q i h k =
+    ap (λ (n : ℕ). getD (front i l q) (n + k) 0) (sym (length-take-le i l h))
+    ∙ (getD-append-add (take i l) (drop i q) k 0 ∙ getD-drop i q k 0)
 
 -- one place more
 pub front-next : (l q : List ℕ) (i : ℕ) → i < length l → i < length q

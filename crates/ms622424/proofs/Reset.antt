@@ -27,8 +27,8 @@ module _ (c : Chip) where
     unfolding reset
     reset-outside h = stops (resetRefusals c) c _ (lentLength ∷ []) outOfRange 8 _ refl refl (long, tt) (not-fails _ h)
 
-    pub reset-does : Holds (keptRanges (c .state)) → (q : List ℕ) → q
-        ≡ take 0 (c .queue) ++ replicate (64 - 0) 0 ++ drop 64 (c .queue)
+    pub reset-does : Holds (keptRanges (c .state)) → (q : List ℕ)
+        → q ≡ take 0 (c .queue) ++ replicate (64 - 0) 0 ++ drop 64 (c .queue)
         → accepting 0 0 (chip (fresh (c .state)) q (c .map)) ≡ reset c
     unfolding reset
     reset-does h q e =

@@ -68,6 +68,6 @@ place-below c h i l =
     rw (getD-take w q i 0 l) at (ltb-true (getD (take w q) i 0) (2 ^ 37) one)
 
 -- and an unused one is zero
-pub unused-zero : (c : Chip) → Sound c → drop (c .state .waiting) (c .queue)
-    ≡ replicate (length (drop (c .state .waiting) (c .queue))) 0
+pub unused-zero : (c : Chip) → Sound c
+    → drop (c .state .waiting) (c .queue) ≡ replicate (length (drop (c .state .waiting) (c .queue))) 0
 unused-zero c h = zeros _ (h .2 .1 .1 .1 .1 .1 .1 .1 .1 .0)

@@ -84,6 +84,7 @@ packed e = e .red + 256 * e .green + 65536 * e .blue + 16777216 * e .address
 abbrev pub unpacked : ℕ → Entry
 unpacked n = record { address = n / 16777216; red = n % 256; green = n / 256 % 256; blue = n / 65536 % 256 }
 
+-- the entries that places hold
 abbrev pub held : List ℕ → List Entry
 held queue = map unpacked queue
 
@@ -230,8 +231,7 @@ made count after = record { count = count; after = after }
 
 -- one slot more moves the oldest entry, if one waits
 unfoldable pub oneSlot : Moves → Moves
-oneSlot m =
-    pick (eqb (m .after .state .waiting) 0) m (made (m .count + 1) (moveOldest (m .after)))
+oneSlot m = pick (eqb (m .after .state .waiting) 0) m (made (m .count + 1) (moveOldest (m .after)))
 
 unfoldable pub moves : ℕ → Chip → Moves
 moves zero c = made 0 c
@@ -278,6 +278,7 @@ written palette byte c =
     accepting 0 (m .count) (withState (stepped k (d .state)) d)
 -- command bits 5 to 7 are ignored (ruling)
 written command byte c = let s = c .state in accepting 0 0 (withState (control s (byte % 32) (s .readmode)) c)
+-- "Invalid Operation": refused, and so without effect
 written status byte c = accepting 0 0 c
 written buffer byte c = accepting 0 0 c
 written revision byte c = accepting 0 0 c
@@ -440,7 +441,7 @@ sync signals c =
 
 -- ======== RSB: reset
 
--- only revision and board number are read: what they were, and everything else at its start
+-- a reset reads revision and board number alone
 abbrev pub resetRefusals : Chip → List Row
 resetRefusals c = (lentLength when shortQueue c) ∷ (outOfRange when fails (keptRanges (c .state))) ∷ []
 
@@ -471,6 +472,7 @@ refuse n s = record { refusal = n; value = 0; count = 0; state = s }
 abbrev pub accept : ℕ → ℕ → State → Answer
 accept value count s = record { refusal = 0; value = value; count = count; state = s }
 
+-- an answer and the tables after the call, as an outcome
 abbrev pub outcome : Answer → List ℕ → List ℕ → Outcome Chip
 outcome a queue map = record {
   refusal = a .refusal;
@@ -490,5 +492,6 @@ showing a c = record {
   left = c;
 }
 
+-- a refused pixel's answer
 abbrev pub dark : ℕ → Shown
 dark n = record { refusal = n; red = 0; green = 0; blue = 0 }

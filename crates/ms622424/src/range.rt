@@ -14,8 +14,8 @@ ghost use Rattle.ms622424.specs.Ms622424.{chip, held, every, inMap, isZe
 // There is no branch in the loop: it can be vectorized.
 fn gathered(queue: &[u64], from: usize, to: usize) -> u64
     requires { ⌜ (from ≤ to) × (to ≤ length (now queue)) ⌝ }
-    ensures { λ r. ⌜ ((k : ℕ) → ltb r (2 ^ k)
-        ≡ every (λ n. ltb n (2 ^ k)) (take (to - from) (drop from (now (queue .entry))))) ⌝ }
+    ensures { λ r. ⌜ ((k : ℕ)
+        → ltb r (2 ^ k) ≡ every (λ n. ltb n (2 ^ k)) (take (to - from) (drop from (now (queue .entry))))) ⌝ }
 {
     let mut bits: u64 = 0;
     let mut i = from;
@@ -29,8 +29,8 @@ fn gathered(queue: &[u64], from: usize, to: usize) -> u64
 // Every waiting entry has an address of the map, and every unused place is zero.
 fn queue_in_range(queue: &[u64], waiting: u8) -> bool
     requires { ⌜ (length (now queue) ≡ 64) × (waiting ≤ 64) ⌝ }
-    ensures { λ r. ⌜ r ≡ (every inMap (held (take waiting (now (queue .entry)))) && every isZero
-        (drop waiting (now (queue .entry)))) ⌝ }
+    ensures { λ r. ⌜ r ≡ (every inMap (held (take waiting (now (queue .entry))))
+        && every isZero (drop waiting (now (queue .entry)))) ⌝ }
 {
     let n = waiting as usize;
     if 137438953472 <= gathered(queue, 0, n) {
@@ -70,8 +70,8 @@ fn in_range(s: State, queue: &[u64]) -> bool
 
 // What every call but a reset tries first, of the state and the queue.
 pub fn standing_queue(s: State, queue: &[u64]) -> u8
-    ensures { λ r. ⌜ ((m : List ℕ) → r
-        ≡ refusalOf (standing (shortQueue (chip s (now (queue .entry)) m))
+    ensures { λ r. ⌜ ((m : List ℕ)
+        → r ≡ refusalOf (standing (shortQueue (chip s (now (queue .entry)) m))
         (fails (ranges (chip s (now (queue .entry)) m))))) ⌝ }
 {
     if queue.len() != 64 {
@@ -85,8 +85,8 @@ pub fn standing_queue(s: State, queue: &[u64]) -> u8
 
 // The same of a call that is lent the map too, of `size` bytes.
 pub fn standing_tables(s: State, queue: &[u64], size: usize) -> u8
-    ensures { λ r. ⌜ ((m : List ℕ) → length m ≡ size → r
-        ≡ refusalOf (standing (shortTable (chip s (now (queue .entry)) m))
+    ensures { λ r. ⌜ ((m : List ℕ) → length m ≡ size
+        → r ≡ refusalOf (standing (shortTable (chip s (now (queue .entry)) m))
         (fails (ranges (chip s (now (queue .entry)) m))))) ⌝ }
 {
     if size != 24576 {

@@ -9,12 +9,15 @@ use lib.Bits.{bitAnd, bitOr}
 use lib.ListN.{getD}
 use Rattle.vocabulary.specs.Range.{Holds}
 use Rattle.vocabulary.specs.Refusal.{lentLength, outOfRange}
-use Rattle.vocabulary.specs.Outcome.{accepting, refusing}
+use Rattle.vocabulary.specs.Outcome.{Outcome, accepting, refusing}
+use Rattle.ms622424.specs.declared.Shown.{Shown}
 use Rattle.vocabulary.proofs.Range.{holds-passes, not-fails}
 use Rattle.vocabulary.proofs.Table.{table-rule}
 use Rattle.ms622424.specs.Ms622424.{Chip, Sound, ranges, shortQueue, Colour, red, green, blue, pixelByte}
 use Rattle.ms622424.specs.Ms622424.{entryShown, gunShown}
-use Rattle.ms622424.specs.Ms622424.{pout, pixelRefusals, pixel, pipeOut, syncRefusals, sync}
+use Rattle.ms622424.specs.Ms622424.{pout, showing, pixelRefusals, pixel, pipeOut, syncRefusals, sync}
+use Rattle.ms622424.specs.Ms622424.{Entry, unpacked}
+use Rattle.ms622424.proofs.Waiting.{unpacked-packed}
 use Rattle.ms622424.proofs.Access.{stops, goes-on, lengths-right}
 
 -- ---- the entry that a gun shows
@@ -80,3 +83,18 @@ module _ (signals : ℕ) (c : Chip) (l : shortQueue c ≡ false) where
   unfolding sync
   sync-does h r v e =
       ap (λ (n : ℕ). accepting n 0 c) e ∙ goes-on (syncRefusals signals c) c _ (l, (holds-passes _ (h, r), tt))
+
+-- ---- two answers of a pixel that show the same are the same: its three bytes can be told from the value
+same-shown : {n m r x g y b z : ℕ} → n ≡ m → r ≡ x → g ≡ y → b ≡ z
+    → _≡_ {A = Shown} (record { refusal = n; red = r; green = g; blue = b })
+    (record { refusal = m; red = x; green = y; blue = z })
+same-shown e f g h = cc
+
+pub showing-once : (a b : Shown) (c : Chip) → a .red < 256 → a .green < 256 → a .blue < 256
+    → b .red < 256 → b .green < 256 → b .blue < 256 → showing a c ≡ showing b c → a ≡ b
+showing-once a b c ar ag ab br bg bb e =
+    let first = unpacked-packed 0 (a .red) (a .green) (a .blue) ar ag ab in
+    let second = unpacked-packed 0 (b .red) (b .green) (b .blue) br bg bb in
+    let same = sym first ∙ (ap (λ (o : Outcome Chip). unpacked (o .value + 16777216 * 0)) e ∙ second) in
+    same-shown (ap (λ (o : Outcome Chip). o .refusal) e) (ap (λ (x : Entry). x .red) same)
+    (ap (λ (x : Entry). x .green) same) (ap (λ (x : Entry). x .blue) same)
