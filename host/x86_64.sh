@@ -32,4 +32,5 @@ else
     host_cargo[0]=/usr/bin/cargo
     host_cargo+=(--target x86_64-unknown-linux-gnu)
     export RUSTC=/usr/bin/rustc CARGO_TARGET_X86_64_UNKNOWN_LINUX_GNU_LINKER=$host_cc
+    export CARGO_TARGET_X86_64_UNKNOWN_LINUX_GNU_RUNNER=$host_run
 fi

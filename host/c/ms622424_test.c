@@ -2,7 +2,6 @@
  * answer and every place and byte of both tables, on good and bad states, lengths and arguments. */
 #include "check.h"
 #include "zikombaru.h"
-#include "zikombaru_ms622424.h"
 
 /* the tables that are lent, and the model's own, with room for one element too many */
 static uint64_t *queue, want_queue[ZK_B_PLACES + 1];

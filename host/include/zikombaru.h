@@ -3,12 +3,16 @@
  * Conventions, for every call of this library:
  *
  *  - Memory. The caller owns every buffer. A call is lent it as a pointer and a length, in elements, for the time of
- *    the call, and keeps no pointer. The pointer of an empty buffer may be anything but null. Nothing is allocated, and
- *    there is no state of the library's own, so calls on different buffers may run at the same time.
+ *    the call, and keeps no pointer. Buffers of one call do not overlap. The pointer of an empty buffer may be anything
+ *    but null. Nothing is allocated, and the library has no state of its own, so calls on different buffers may run at
+ *    the same time.
  *  - Any input is allowed. Each call takes every value that its types hold and every length, never fails in another
  *    way than by a refusal, and always comes back. The lengths must be true: that much memory must be there.
  *  - Refusals are the numbers of zk_refusal_number, 0 for none. A refused call changes no lent byte, hands a state back
  *    as it was given, and answers 0 for every value and count; a malformed sheet's refusal also tells the line.
+ *  - States are plain structs that the caller owns. They go in by value, and the state after the call comes back in the
+ *    answer. The chips' calls are in zikombaru_hd153108.h (zk_a_), zikombaru_ms622424.h (zk_b_), zikombaru_rgb640.h
+ *    (zk_c_) and, for chip A's sheets, zikombaru_sheet.h (zk_sheet_), which this file brings.
  *  - Answers. A call that has no state answers one number of 64 bits: zk_refusal, zk_value, zk_count, zk_line read it.
  */
 #ifndef ZIKOMBARU_H
@@ -50,5 +54,10 @@ uint64_t zk_expand6(uint32_t component);
 #ifdef __cplusplus
 }
 #endif
+
+#include "zikombaru_hd153108.h"
+#include "zikombaru_ms622424.h"
+#include "zikombaru_rgb640.h"
+#include "zikombaru_sheet.h"
 
 #endif

@@ -40,4 +40,4 @@ module _ (c : Chip) where
 -- a reset in a run hands the map on unchanged, accepted or not
 pub reset-keeps-map : (c : Chip) → reset c .left .map ≡ c .map
 unfolding reset
-reset-keeps-map c = left-holds (λ (d : Chip). d .map ≡ c .map) _ 0 c _ refl refl
+reset-keeps-map c = left-holds (λ (d : Chip). d .map ≡ c .map) _ 0 c _ refl (λ e. refl)

@@ -25,9 +25,15 @@ module _ {C : Type 0} where
   unfolding answeredAt
   accepted-does line given done e = rw e refl
 
-  -- what holds of all as given, and of what an accepted call leaves, holds afterwards
-  pub left-holds : (P : C → Type 0) (n line : ℕ) (given : C) (done : Outcome C) → P given → P (done .left)
-      → P (answeredAt n line given done .left)
+  -- a call that answers no refusal has none
+  pub accepted-none : (n line : ℕ) (given : C) (done : Outcome C) → answeredAt n line given done .refusal ≡ 0 → n ≡ 0
   unfolding answeredAt
-  left-holds P zero line given done g h = h
+  accepted-none zero line given done e = refl
+  accepted-none (suc n) line given done e = e
+
+  -- what holds of all as given, and of what an accepted call leaves, holds afterwards
+  pub left-holds : (P : C → Type 0) (n line : ℕ) (given : C) (done : Outcome C) → P given
+      → (n ≡ 0 → P (done .left)) → P (answeredAt n line given done .left)
+  unfolding answeredAt
+  left-holds P zero line given done g h = h refl
   left-holds P (suc n) line given done g h = g

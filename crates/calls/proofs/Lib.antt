@@ -1,0 +1,6 @@
+pub mod Stored
+pub mod Count
+pub mod Lent
+pub mod Turn
+pub mod Ends
+pub mod Rules

@@ -1,0 +1,6 @@
+pub mod Access
+pub mod Keep
+pub mod Data
+pub mod Masks
+pub mod Blink
+pub mod Pixel

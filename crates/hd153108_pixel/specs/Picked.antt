@@ -1,0 +1,40 @@
+-- What the pixel code's answers mean, in the words of hd153108's specs/Hd153108.antt.
+use Prim.Native.Nat.{ℕ, _+_, _*_, _≤_}
+use mathlib.Core.Path.{_≡_}
+use mathlib.Core.Bool.{Bool, true, false}
+use mathlib.Core.List.{List, [], _∷_}
+use lib.ListN.{length}
+use Rattle.vocabulary.specs.Outcome.{Outcome, accepting, refusing}
+use Rattle.hd153108.specs.Hd153108.{Chip, Table, colour, overlay, colourAt, pixelOr}
+use Rattle.hd153108_pixel.specs.declared.Pick.{Pick}
+use Rattle.hd153108_pixel.specs.declared.Pick.the-variants.{Colour, Overlay, Refused}
+use Rattle.hd153108_pixel.specs.declared.Shown.{Shown}
+
+abbrev pub isColour : Table → Bool
+isColour colour = true
+isColour overlay = false
+
+-- each answer as document 01's number and the three bytes; where refused, the number and no byte, or those of `none`
+abbrev pub meaning : List ℕ → Chip → Pick → Outcome (List ℕ)
+meaning none c (Colour e) = accepting 0 0 (colourAt e (c .colours))
+meaning none c (Overlay e) = accepting 0 0 (colourAt e (c .overlays))
+meaning none c (Refused n) = refusing n 0 none
+
+-- the entry lies in its table
+abbrev pub Inside : Chip → Pick → Type 0
+Inside c (Colour e) = 3 * e + 3 ≤ length (c .colours)
+Inside c (Overlay e) = 3 * e + 3 ≤ length (c .overlays)
+Inside c (Refused n) = Unit
+
+pub record Picked (enable number byte : ℕ) (c : Chip) (p : Pick) : Type 0 where
+  pub means : (none : List ℕ) → meaning none c p ≡ pixelOr none enable number byte c
+  pub inside : Inside c p
+
+abbrev pub shownOutcome : Shown → Outcome (List ℕ)
+shownOutcome r = record {
+  refusal = r .refusal;
+  value = 0;
+  count = 0;
+  line = 0;
+  left = r .red ∷ r .green ∷ r .blue ∷ [];
+}

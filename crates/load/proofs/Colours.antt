@@ -1,0 +1,45 @@
+-- A table's colours, as the writer lists them: three bytes below 16 and one value. Assumes nothing.
+use Prim.Native.Nat.{ℕ, zero, suc, _+_, _*_, _<_, _≤_}
+use mathlib.Core.Path.{_≡_}
+use mathlib.Core.List.{List, [], _∷_, map}
+use mathlib.Core.Bool.{false}
+use native.Mathlib.Omega.{arith}
+use lib.ListN.{length, getD}
+use Rattle.hd153108.specs.Hd153108.{colourAt}
+use Rattle.sheet.specs.declared.Line.the-variants.{Has, Missing}
+use Rattle.sheet.specs.Sheet.{coloursIn, overFifteenIn, redOf, greenOf, blueOf}
+use Rattle.sheet_writer.proofs.Values.{low-first}
+use Rattle.load.specs.Load.{filled}
+
+-- an entry's bytes are below 16, and so are those behind it
+low-entry : (r g b : ℕ) (t : List ℕ) → overFifteenIn (r ∷ g ∷ b ∷ t) ≡ false
+    → (r < 16) × (g < 16) × (b < 16) × (overFifteenIn t ≡ false)
+low-entry r g b t o =
+    let lr = low-first r _ o in
+    let lg = low-first g _ (lr .1) in
+    let lb = low-first b t (lg .1) in
+    (lr .0, lg .0, lb .0, lb .1)
+
+-- a colour's components are the entry's bytes
+components : (r g b : ℕ) → r < 16 → g < 16 → b < 16
+    → filled (Has ((r * 16 + g) * 16 + b)) [] ≡ r ∷ g ∷ b ∷ []
+components r g b hr hg hb =
+    let v = (r * 16 + g) * 16 + b in
+    let er : redOf v ≡ r = omega arith in
+    let eg : greenOf v ≡ g = omega arith in
+    let eb : blueOf v ≡ b = omega arith in
+    rw (er, eg, eb)
+
+-- so a listed entry is the table's
+pub listed : (t : List ℕ) (e : ℕ) (old : List ℕ) → overFifteenIn t ≡ false → 3 * e + 3 ≤ length t
+    → filled (getD (map Has (coloursIn t)) e Missing) old ≡ colourAt e t
+unfolding coloursIn
+listed [] e old o h = absurd (let z : ⊥ = omega arith in z)
+listed (r ∷ []) e old o h = absurd (let z : ⊥ = omega arith in z)
+listed (r ∷ g ∷ []) e old o h = absurd (let z : ⊥ = omega arith in z)
+listed (r ∷ g ∷ b ∷ t) zero old o h =
+    let l = low-entry r g b t o in
+    components r g b (l .0) (l .1) (l .2)
+listed (r ∷ g ∷ b ∷ t) (suc e) old o h =
+    let z : 3 * suc e ≡ suc (suc (suc (3 * e))) = omega arith in
+    rw z (listed t e old (low-entry r g b t o .3) (omega arith))

@@ -1,0 +1,12 @@
+pub mod Writes
+pub mod Runs
+pub mod Tables
+pub mod Grammar
+pub mod Entry
+pub mod Entries
+pub mod Registers
+pub mod Load
+pub mod Colours
+pub mod Back
+pub mod Cheats
+pub mod Buffers

@@ -1,0 +1,98 @@
+-- Loading a sheet on chip A: demand 2, "a sheet of colours becomes a list of port calls, and those calls, made on any
+-- state and tables within A's ranges and lengths, leave the sheet's colours and registers there. A's colours and
+-- registers, where no table byte is over 15, become a sheet that loads back equal." `LoadsSheets` is the first
+-- sentence, `LoadsBack` the second; the theorems are `load` (proofs/Load.antt) and `back` (proofs/Back.antt).
+use Prim.Native.Nat.{ℕ}
+use mathlib.Core.Path.{_≡_}
+use mathlib.Core.List.{List, [], _∷_}
+use lib.ListN.{length, getD, replicate}
+use Rattle.vocabulary.specs.Range.{Holds}
+use Rattle.vocabulary.specs.Outcome.{Outcome}
+use Rattle.hd153108.specs.declared.State.{State}
+use Rattle.hd153108.specs.Hd153108.{Chip, Table, colour, overlay, tableOf, colourAt, lengths, ranges}
+use Rattle.sheet.specs.declared.Line.{Line}
+use Rattle.sheet.specs.declared.Line.the-variants.{Has, Missing}
+use Rattle.sheet.specs.Sheet.{sheetOf, good, linesOf, registersOf, overlaysOf, coloursOf, redOf, greenOf, blueOf}
+use Rattle.sheet.specs.Sheet.{textOf}
+use Rattle.sheet_writer.specs.Writer.{Writable}
+use Rattle.calls.specs.Calls.{Call, callsOf}
+
+-- ---- "any state and tables within A's ranges and lengths"
+
+-- what refusals 1 and 9 test
+pub record InRange (c : Chip) : Type 0 where
+  pub tables : Holds (lengths (length (c .colours)) (length (c .overlays)))
+  pub state : Holds (ranges (c .state))
+
+-- ---- "those calls, made"
+
+-- a write of a byte to a select, on a chip: A's is `write` of Hd153108, and a law may put another in its place
+-- (proofs/Cheats.antt)
+abbrev pub Writing : Type 0
+Writing = ℕ → ℕ → Chip → Outcome Chip
+
+-- the chip after calls made one after another
+unfoldable pub made : Writing → List Call → Chip → Chip
+made w [] c = c
+made w (k ∷ ks) c = made w ks (w (k .select) (k .byte) c .left)
+
+-- and the refusal that each of them gave, 0 for none
+unfoldable pub refusals : Writing → List Call → Chip → List ℕ
+refusals w [] c = []
+refusals w (k ∷ ks) c = w (k .select) (k .byte) c .refusal ∷ refusals w ks (w (k .select) (k .byte) c .left)
+
+abbrev pub AllAccepted : Writing → List Call → Chip → Type 0
+AllAccepted w ks c = refusals w ks c ≡ replicate (length ks) 0
+
+-- ---- "leave the sheet's colours and registers there"
+
+-- a chip's registers, as a sheet's lines say them
+abbrev pub registerLines : State → List Line
+registerLines s = Has (s .readmask) ∷ Has (s .blinkmask) ∷ Has (s .control) ∷ Has (s .clock .timing) ∷ []
+
+-- a table's lines in a sheet, entry by entry
+abbrev pub entriesOf : Table → List Line → List Line
+entriesOf colour l = coloursOf l
+entriesOf overlay l = overlaysOf l
+
+-- an entry's three bytes after the load: the sheet's components where the entry is listed, else as they were
+abbrev pub filled : Line → List ℕ → List ℕ
+filled (Has v) before = redOf v ∷ greenOf v ∷ blueOf v ∷ []
+filled Missing before = before
+
+-- the sheet's registers (a timing write restarts the blink position), the sheet's colours in each entry that it lists,
+-- every other entry as it was; and in range
+pub record Leaves (lines : List Line) (before after : Chip) : Type 0 where
+  pub registers : registerLines (after .state) ≡ registersOf lines
+  pub position : after .state .clock .position ≡ 0
+  pub entries : (t : Table) (e : ℕ)
+      → colourAt e (tableOf t after) ≡ filled (getD (entriesOf t lines) e Missing) (colourAt e (tableOf t before))
+  pub inRange : InRange after
+
+pub record Loads (w : Writing) (lines : List Line) (c : Chip) : Type 0 where
+  pub accepted : AllAccepted w (callsOf lines) c
+  pub leaves : Leaves lines c (made w (callsOf lines) c)
+
+-- The load, for every text that is a good sheet and every chip in range.
+abbrev pub LoadsSheets : Writing → Type 0
+LoadsSheets w =
+    (text : List ℕ) (lines : List Line) (c : Chip) → sheetOf text ≡ good lines → InRange c → Loads w lines c
+
+-- ---- "A's colours and registers, where no table byte is over 15, become a sheet that loads back equal"
+
+-- which chips the writer takes is `Writable` (Writer.antt of sheet_writer): in range, and no table byte over 15
+
+-- equal registers, colours and overlays
+pub record Same (a b : Chip) : Type 0 where
+  pub registers : registerLines (a .state) ≡ registerLines (b .state)
+  pub colours : a .colours ≡ b .colours
+  pub overlays : a .overlays ≡ b .overlays
+
+-- The way back, through the text: chip a's sheet is good, and its calls, made on chip b, leave what a has.
+pub record Returns (w : Writing) (a b : Chip) : Type 0 where
+  pub reads : sheetOf (textOf a) ≡ good (linesOf (sheetOf (textOf a)))
+  pub accepted : AllAccepted w (callsOf (linesOf (sheetOf (textOf a)))) b
+  pub same : Same a (made w (callsOf (linesOf (sheetOf (textOf a)))) b)
+
+abbrev pub LoadsBack : Writing → Type 0
+LoadsBack w = (a b : Chip) → Writable a → InRange b → Returns w a b

@@ -1,0 +1,4 @@
+pub mod Entry
+pub mod Good
+pub mod Keeps
+pub mod ReadBack

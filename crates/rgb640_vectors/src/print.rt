@@ -1,0 +1,73 @@
+// What the vectors print: a label, then answers as refusal/value, an index with the place in the order, or a colour.
+use libc::STDOUT_FILENO;
+use rgb640::Answer;
+use rgb640::State;
+
+pub fn label(text: &[u8]) {
+    io::write_all(STDOUT_FILENO, text);
+    end();
+}
+
+pub fn end() {
+    io::write_all(STDOUT_FILENO, b"\n");
+}
+
+fn decimal(n: u16) {
+    io::write_all(STDOUT_FILENO, b" ");
+    io::print_decimal(STDOUT_FILENO, n as u64);
+}
+
+fn hex(n: u16, width: usize) {
+    io::write_all(STDOUT_FILENO, b" ");
+    io::print_hex(STDOUT_FILENO, n as u64, width);
+}
+
+fn three(text: &[u8], a: u16, b: u16, c: u16) {
+    label(text);
+    decimal(a);
+    decimal(b);
+    decimal(c);
+    end();
+}
+
+// A call's answer, and the state that it left.
+pub fn answer(a: Answer) -> State {
+    decimal(a.refusal as u16);
+    io::write_all(STDOUT_FILENO, b"/");
+    io::print_hex(STDOUT_FILENO, a.value as u64, 2);
+    let s = a.state;
+    s
+}
+
+// The index and the place.
+pub fn place(text: &[u8], s: State) {
+    label(text);
+    hex(s.index, 4);
+    decimal(s.place as u16);
+    end();
+}
+
+// The latches and register 0x000E.
+pub fn latches(text: &[u8], s: State) {
+    label(text);
+    decimal(s.red);
+    decimal(s.green);
+    hex(s.update as u16, 2);
+    end();
+}
+
+// The fetched entry.
+pub fn fetched(text: &[u8], s: State) {
+    let f = s.fetched;
+    three(text, f.red, f.green, f.blue);
+}
+
+// An entry of the table, as it stands.
+pub fn entry(text: &[u8], t: &[u16], e: usize) {
+    if e < 1024 {
+        let at = 3 * e;
+        if at + 2 < t.len() {
+            three(text, t[at], t[at + 1], t[at + 2]);
+        }
+    }
+}

@@ -1,0 +1,4 @@
+pub mod Leads
+pub mod Naming
+pub mod Along
+pub mod Kept

@@ -1,0 +1,78 @@
+-- The whole call, by how it ends. Assumes nothing.
+use Prim.Native.Nat.{ℕ, zero, suc, _+_, _≤_, _<_}
+use mathlib.Core.Path.{_≡_, refl, sym, ap, _∙_}
+use mathlib.Core.Bool.{Bool, true, false, _||_}
+use mathlib.Core.List.{List, [], _∷_, _++_}
+use native.Mathlib.Omega.{arith}
+use lib.ListN.{length}
+use borrow.Author.Tests.{lt-ltb, le-ltb}
+use Rattle.vocabulary.specs.Refusal.{Refusal, lentLength, outOfRange, noAccess, noIndex, readMode, stillWaiting}
+use Rattle.vocabulary.specs.Refusal.{overFifteen, malformed, shortBuffer, refusalOf, standing}
+use Rattle.vocabulary.proofs.Refusal.{refusal-is, refusal-none, standing-clear, standing-first}
+use Rattle.vocabulary.proofs.Outcome.{refusal-keeps, refused-as, accepted-does}
+use Rattle.hd153108.specs.Hd153108.{Chip, short, outside}
+use Rattle.sheet.specs.declared.Answer.the-variants.{Done, Refused}
+use Rattle.sheet.specs.Sheet.{textOf, pasted, overFifteenIn, writeRefusals, write, outcome}
+use Rattle.sheet_writer.specs.Writer.{Writable}
+use Rattle.sheet_writer.proofs.Values.{length-text, writable}
+
+module _ (a : Chip) (out : List ℕ) where
+  abbrev tried : ℕ
+  tried = refusalOf (standing (short a) (outside a))
+
+  -- 1 and 9, as the chip finds them
+  pub refused-standing : {n : ℕ} → n ≡ tried → (n ≡ 0 → ⊥) → outcome (Refused n 0) out ≡ write a out
+  unfolding write
+  refused-standing {n} e h =
+      let f : refusalOf (writeRefusals a out) ≡ n =
+      standing-first _ _ (writeRefusals a out) refl (λ z. z) (λ z. h (e ∙ z)) ∙ sym e in
+      sym (rw f (refusal-keeps n 0 out _ h))
+
+  module _ (clear : tried ≡ 0) where
+    stands : (short a ≡ false) × (outside a ≡ false)
+    stands = standing-clear _ _ clear
+
+    over : (overFifteenIn (a .colours) || overFifteenIn (a .overlays)) ≡ true → outcome (Refused 2 0) out ≡ write a out
+    unfolding write
+    over e =
+        sym (refused-as 1 0 out _
+        (refusal-is (writeRefusals a out) (lentLength ∷ outOfRange ∷ noAccess ∷ noIndex ∷ readMode ∷ stillWaiting ∷ [])
+        overFifteen _ refl (stands .0, (stands .1, (refl, (refl, (refl, (refl, tt)))))) e))
+
+    pub refused-colours : overFifteenIn (a .colours) ≡ true → outcome (Refused 2 0) out ≡ write a out
+    refused-colours e = over (rw e refl)
+
+    module _ (low : overFifteenIn (a .colours) ≡ false) where
+      pub refused-overlays : overFifteenIn (a .overlays) ≡ true → outcome (Refused 2 0) out ≡ write a out
+      refused-overlays e = over (rw (low, e) refl)
+
+      module _ (low′ : overFifteenIn (a .overlays) ≡ false) where
+        neither : (overFifteenIn (a .colours) || overFifteenIn (a .overlays)) ≡ false
+        neither = rw (low, low′) refl
+
+        pub takes-it : Writable a
+        takes-it = writable a (stands .0) (stands .1) low low′
+
+        long : length (textOf a) ≡ 2134
+        long = length-text a (takes-it .overlays) (takes-it .colours)
+
+        pub refused-short : length out < 2134 → outcome (Refused 7 0) out ≡ write a out
+        unfolding write
+        refused-short h =
+            let less : length out < length (textOf a) = omega (arith, long) in
+            sym (refused-as 6 0 out _
+            (refusal-is (writeRefusals a out)
+            (lentLength ∷ outOfRange ∷ noAccess ∷ noIndex ∷ readMode ∷ stillWaiting ∷ overFifteen ∷ malformed ∷ [])
+            shortBuffer _ refl
+            (stands .0, (stands .1, (refl, (refl, (refl, (refl, (neither, (refl, tt))))))))
+            (lt-ltb (length out) _ less)))
+
+        pub done : {left : List ℕ} → 2134 ≤ length out → left ≡ pasted out 0 (textOf a)
+            → outcome (Done 2134) left ≡ write a out
+        unfolding write
+        done h e =
+            let room : length (textOf a) ≤ length out = omega (arith, long) in
+            rw (e, sym long)
+            (sym (accepted-does 0 out _
+            (refusal-none (writeRefusals a out)
+            (stands .0, (stands .1, (neither, (le-ltb (length out) _ room, tt)))))))

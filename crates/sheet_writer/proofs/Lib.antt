@@ -1,0 +1,4 @@
+pub mod Values
+pub mod Turn
+pub mod Ends
+pub mod Round

@@ -1,0 +1,355 @@
+/* Chip A against plain C of its own, written from source document 003 and document 01: every select, pointer, blink
+ * clock and mask, states in and out of range, tables of wrong lengths. Every field and every lent byte is compared. */
+#include "check.h"
+#include "zikombaru.h"
+
+/* ---- the chip again */
+
+static int on_ticks(int timing) { return 4 * ((timing & 0x0f) + 1); }
+static int all_ticks(int timing) { return on_ticks(timing) + 4 * ((timing >> 4) + 1); }
+static int clock_good(zk_a_clock k) { return k.position < all_ticks(k.timing); }
+
+static int state_good(zk_a_state s) {
+    return s.pointer <= 2 && s.red <= 15 && s.green <= 15 && (s.control & 0xb0) == 0 && clock_good(s.clock);
+}
+
+/* both tables as lent */
+struct tables {
+    uint8_t *colours, *overlays;
+    size_t colour_bytes, overlay_bytes;
+};
+
+static int refusal_of(zk_a_state s, const struct tables *t, int arguments_good, int access) {
+    if (t->colour_bytes != 768 || t->overlay_bytes != 12) return 1;
+    if (!state_good(s) || !arguments_good) return 9;
+    return access ? 0 : 3;
+}
+
+static int has_register(int select) { return select <= 7 && select != 2; }
+
+/* the byte of a table under the pointer, for select 1 or 3 */
+static uint8_t *under(const struct tables *t, int select, const zk_a_state *s) {
+    return select == 1 ? t->colours + 3 * s->address + s->pointer : t->overlays + 3 * (s->address & 3) + s->pointer;
+}
+
+static void step_pointer(int select, zk_a_state *s) {
+    if (++s->pointer < 3) return;
+    s->pointer = 0;
+    if (select == 1)
+        s->address++;
+    else
+        s->address = (uint8_t)((s->address & ~3) | ((s->address + 1) & 3));
+}
+
+static zk_a_answer write_again(zk_a_state s, int select, uint8_t byte, const struct tables *t) {
+    zk_a_answer a = {0, 0, s};
+    a.refusal = (uint8_t)refusal_of(s, t, 1, has_register(select));
+    if (a.refusal != 0) return a;
+    uint8_t four = byte & 0x0f;
+    switch (select) {
+    case 0: a.state.address = byte, a.state.pointer = 0; break;
+    case 4: a.state.readmask = byte; break;
+    case 5: a.state.blinkmask = byte; break;
+    case 6: a.state.control = byte & ~0xb0; break;
+    case 7: a.state.clock.timing = byte, a.state.clock.position = 0; break;
+    default:
+        if (s.pointer == 0) a.state.red = four;
+        if (s.pointer == 1) a.state.green = four;
+        if (s.pointer == 2) {
+            uint8_t *blue = under(t, select, &s);
+            blue[-2] = s.red, blue[-1] = s.green, blue[0] = four;
+        }
+        step_pointer(select, &a.state);
+    }
+    return a;
+}
+
+static zk_a_answer read_again(zk_a_state s, int select, const struct tables *t) {
+    zk_a_answer a = {0, 0, s};
+    a.refusal = (uint8_t)refusal_of(s, t, 1, has_register(select));
+    if (a.refusal != 0) return a;
+    switch (select) {
+    case 0: a.value = s.address, a.state.pointer = 0; break;
+    case 4: a.value = s.readmask; break;
+    case 5: a.value = s.blinkmask; break;
+    case 6: a.value = s.control; break;
+    case 7: a.value = s.clock.timing; break;
+    default: a.value = *under(t, select, &s), step_pointer(select, &a.state);
+    }
+    return a;
+}
+
+/* line by line: masked by a read mask bit of 1; in the off time by a blink mask bit of 0 */
+static int through(int lines, int value, int read, int blink, int off) {
+    int shown = 0;
+    for (int k = 0; k < lines; k++) {
+        int masked = (read >> k & 1) == 1 || (off && (blink >> k & 1) == 0);
+        if (!masked && (value >> k & 1)) shown |= 1 << k;
+    }
+    return shown;
+}
+
+static zk_a_shown pixel_again(zk_a_state s, const struct tables *t, int enable, int number, int byte) {
+    zk_a_shown p = {0, 0, 0, 0};
+    p.refusal = (uint8_t)refusal_of(s, t, enable <= 1 && number <= 3, 1);
+    if (p.refusal != 0) return p;
+    int off = s.clock.position >= on_ticks(s.clock.timing);
+    int overlay = enable && !((s.control & 0x40) != 0 && number == 0);
+    const uint8_t *entry = overlay ? t->overlays + 3 * through(2, number, s.control, s.control >> 2, off)
+                                   : t->colours + 3 * through(8, byte, s.readmask, s.blinkmask, off);
+    p.red = entry[0], p.green = entry[1], p.blue = entry[2];
+    return p;
+}
+
+/* ---- inputs */
+
+static const size_t colour_sizes[] = {768, 0, 1, 767, 769, 1024}, overlay_sizes[] = {12, 0, 11, 13, 768};
+#define COLOUR_SIZES (sizeof colour_sizes / sizeof *colour_sizes)
+#define OVERLAY_SIZES (sizeof overlay_sizes / sizeof *overlay_sizes)
+
+/* a lent pair of tables for each pair of sizes, and room for what they should hold after a call */
+static struct tables lent[COLOUR_SIZES][OVERLAY_SIZES];
+static uint8_t colours_again[1024], overlays_again[1024];
+
+static void make_tables(void) {
+    for (size_t i = 0; i < COLOUR_SIZES; i++)
+        for (size_t j = 0; j < OVERLAY_SIZES; j++) {
+            struct tables t = {NULL, NULL, colour_sizes[i], overlay_sizes[j]};
+            t.colours = check_guarded(t.colour_bytes), t.overlays = check_guarded(t.overlay_bytes);
+            for (size_t k = 0; k < t.colour_bytes; k++) t.colours[k] = (uint8_t)check_random();
+            for (size_t k = 0; k < t.overlay_bytes; k++) t.overlays[k] = (uint8_t)check_random();
+            lent[i][j] = t;
+        }
+}
+
+/* what the tables hold before a call, and, once the call is made again on it, what they should hold after */
+static void keep(const struct tables *t) {
+    memcpy(colours_again, t->colours, t->colour_bytes);
+    memcpy(overlays_again, t->overlays, t->overlay_bytes);
+}
+
+static zk_a_state good_state(void) {
+    zk_a_state s;
+    s.address = (uint8_t)check_random(), s.pointer = (uint8_t)check_below(3);
+    s.red = (uint8_t)check_below(16), s.green = (uint8_t)check_below(16);
+    s.readmask = (uint8_t)check_random(), s.blinkmask = (uint8_t)check_random();
+    s.control = (uint8_t)(check_random() & 0x4f), s.clock.timing = (uint8_t)check_random();
+    s.clock.position = (uint8_t)check_below((uint32_t)all_ticks(s.clock.timing));
+    return s;
+}
+
+/* a good state with up to two fields that hold anything, just over the edge or far from it */
+static zk_a_state any_state(void) {
+    zk_a_state s = good_state();
+    for (int i = (int)check_below(3); i > 0; i--) {
+        uint8_t far = (uint8_t)check_random(), edge = (uint8_t)check_below(2);
+        switch (check_below(6)) {
+        case 0: s.pointer = edge ? 3 : far; break;
+        case 1: s.red = edge ? 16 : far; break;
+        case 2: s.green = edge ? 16 : far; break;
+        case 3: s.control = edge ? (uint8_t)(s.control | 16) : far; break;
+        case 4: s.clock.position = edge ? (uint8_t)all_ticks(s.clock.timing) : far; break;
+        default: s.clock.timing = far;
+        }
+    }
+    return s;
+}
+
+static unsigned long met[10];
+
+/* ---- comparisons */
+
+static int same_clock(zk_a_clock a, zk_a_clock b) { return a.timing == b.timing && a.position == b.position; }
+
+static int same_state(zk_a_state a, zk_a_state b) {
+    return a.address == b.address && a.pointer == b.pointer && a.red == b.red && a.green == b.green
+           && a.readmask == b.readmask && a.blinkmask == b.blinkmask && a.control == b.control
+           && same_clock(a.clock, b.clock);
+}
+
+static int same_answer(zk_a_answer a, zk_a_answer b) {
+    return a.refusal == b.refusal && a.value == b.value && same_state(a.state, b.state);
+}
+
+static int same_tables(const struct tables *t) {
+    return memcmp(t->colours, colours_again, t->colour_bytes) == 0
+           && memcmp(t->overlays, overlays_again, t->overlay_bytes) == 0;
+}
+
+#define SHOW "select %d byte %02x, lengths %lu %lu, address %02x pointer %u latches %u %u control %02x clock %02x %u"
+#define SHOWN(s, select, byte, t)                                                                                   \
+    select, (unsigned)(byte), (unsigned long)(t)->colour_bytes, (unsigned long)(t)->overlay_bytes, (s).address,     \
+        (s).pointer, (s).red, (s).green, (s).control, (s).clock.timing, (s).clock.position
+
+static zk_a_state one_write(zk_a_state s, int select, uint8_t byte, const struct tables *t) {
+    keep(t);
+    struct tables again = {colours_again, overlays_again, t->colour_bytes, t->overlay_bytes};
+    zk_a_answer want = write_again(s, select, byte, &again);
+    zk_a_answer got = zk_a_write(s, (uint8_t)select, byte, t->colours, t->colour_bytes, t->overlays, t->overlay_bytes);
+    CHECK(same_answer(got, want), "write " SHOW ": refusal %u, not %u", SHOWN(s, select, byte, t), got.refusal,
+          want.refusal);
+    CHECK(same_tables(t), "write " SHOW ": tables", SHOWN(s, select, byte, t));
+    met[want.refusal]++;
+    return got.state;
+}
+
+static zk_a_state one_read(zk_a_state s, int select, const struct tables *t) {
+    keep(t);
+    zk_a_answer want = read_again(s, select, t);
+    zk_a_answer got = zk_a_read(s, (uint8_t)select, t->colours, t->colour_bytes, t->overlays, t->overlay_bytes);
+    CHECK(same_answer(got, want), "read " SHOW ": refusal %u value %02x, not %u %02x", SHOWN(s, select, 0, t),
+          got.refusal, got.value, want.refusal, want.value);
+    CHECK(same_tables(t), "read " SHOW ": tables", SHOWN(s, select, 0, t));
+    met[want.refusal]++;
+    return got.state;
+}
+
+static void one_pixel(zk_a_state s, int enable, int number, int byte, const struct tables *t) {
+    keep(t);
+    zk_a_shown want = pixel_again(s, t, enable, number, byte);
+    zk_a_shown got = zk_a_pixel(s, t->colours, t->colour_bytes, t->overlays, t->overlay_bytes, (uint8_t)enable,
+                                (uint8_t)number, (uint8_t)byte);
+    int refusal = zk_a_pixel_refusal(s, t->colours, t->colour_bytes, t->overlays, t->overlay_bytes, (uint8_t)enable,
+                                     (uint8_t)number, (uint8_t)byte);
+    CHECK(got.refusal == want.refusal && refusal == want.refusal && got.red == want.red && got.green == want.green
+              && got.blue == want.blue,
+          "pixel enable %d number %d " SHOW ": refusal %u %d, not %u", enable, number, SHOWN(s, 0, byte, t),
+          got.refusal, refusal, want.refusal);
+    CHECK(same_tables(t), "pixel enable %d number %d " SHOW ": tables", enable, number, SHOWN(s, 0, byte, t));
+    met[want.refusal]++;
+}
+
+static void met_often(int refusal) {
+    CHECK(met[refusal] >= 1000, "refusal %d was met %lu times", refusal, met[refusal]);
+}
+
+/* ---- tests */
+
+static void every_select_and_pointer(void) {
+    memset(met, 0, sizeof met);
+    for (int select = 0; select < 256; select++)
+        for (int pointer = 0; pointer < 5; pointer++)
+            for (int i = 0; i < 60; i++) {
+                zk_a_state s = good_state();
+                s.pointer = (uint8_t)pointer;
+                one_write(s, select, (uint8_t)check_random(), &lent[0][0]);
+                one_read(s, select, &lent[0][0]);
+            }
+    met_often(0), met_often(3), met_often(9);
+}
+
+static void any_state_and_length(void) {
+    memset(met, 0, sizeof met);
+    for (int i = 0; i < 60000; i++) {
+        size_t c = check_below(3) ? 0 : check_below(COLOUR_SIZES), o = check_below(3) ? 0 : check_below(OVERLAY_SIZES);
+        const struct tables *t = &lent[c][o];
+        int select = (int)(check_below(2) ? check_below(9) : check_below(256));
+        one_write(any_state(), select, (uint8_t)check_random(), t);
+        one_read(any_state(), select, t);
+        one_pixel(any_state(), (int)check_below(4), (int)check_below(6), (int)check_below(256), t);
+    }
+    met_often(0), met_often(1), met_often(3), met_often(9);
+}
+
+/* every address and pointer of both tables, written and read */
+static void every_entry(void) {
+    for (int address = 0; address < 256; address++)
+        for (int pointer = 0; pointer < 3; pointer++)
+            for (int select = 1; select <= 3; select += 2) {
+                zk_a_state s = good_state();
+                s.address = (uint8_t)address, s.pointer = (uint8_t)pointer;
+                one_write(s, select, (uint8_t)check_random(), &lent[0][0]);
+                one_read(s, select, &lent[0][0]);
+            }
+}
+
+/* long runs of calls, each on the state that the one before left */
+static void runs_of_calls(void) {
+    for (int run = 0; run < 200; run++) {
+        zk_a_answer reset = zk_a_reset(any_state());
+        zk_a_state s = reset.state;
+        for (int i = 0; i < 300; i++) {
+            int select = (int)check_below(9);
+            if (check_below(4) != 0) select = check_below(4) ? 1 : 3;
+            s = check_below(4) ? one_write(s, select, (uint8_t)check_random(), &lent[0][0])
+                               : one_read(s, select, &lent[0][0]);
+            CHECK(state_good(s), "a run left its ranges");
+        }
+    }
+}
+
+static void reset_from_any_state(void) {
+    zk_a_answer want;
+    memset(&want, 0, sizeof want);
+    for (int i = 0; i < 100000; i++) {
+        zk_a_state s;
+        for (size_t k = 0; k < sizeof s; k++) ((uint8_t *)&s)[k] = (uint8_t)check_random();
+        CHECK(same_answer(zk_a_reset(s), want), "reset: not zero");
+    }
+}
+
+/* all 65,536 clocks, by value and lent */
+static void every_clock(void) {
+    zk_a_clock *clock = check_guarded(sizeof *clock);
+    for (int timing = 0; timing < 256; timing++)
+        for (int position = 0; position < 256; position++) {
+            zk_a_clock k = {(uint8_t)timing, (uint8_t)position}, want = k;
+            int refusal = clock_good(k) ? 0 : 9;
+            if (refusal == 0) want.position = (uint8_t)(position + 1 == all_ticks(timing) ? 0 : position + 1);
+            zk_a_clock_answer a = zk_a_step(k);
+            CHECK(a.refusal == refusal && same_clock(a.clock, want), "step %02x %d", timing, position);
+            *clock = k;
+            CHECK(zk_a_tick(clock) == refusal && same_clock(*clock, want), "tick %02x %d", timing, position);
+        }
+}
+
+/* every overlay control, enable, number and blink state; every byte through random masks */
+static void every_pixel(void) {
+    memset(met, 0, sizeof met);
+    for (int control = 0; control < 256; control++)
+        for (int enable = 0; enable < 3; enable++)
+            for (int number = 0; number < 6; number++)
+                for (int i = 0; i < 8; i++) {
+                    zk_a_state s = good_state();
+                    s.control = (uint8_t)control;
+                    one_pixel(s, enable, number, (int)check_below(256), &lent[0][0]);
+                }
+    for (int byte = 0; byte < 256; byte++)
+        for (int i = 0; i < 40; i++)
+            one_pixel(good_state(), (int)check_below(2), (int)check_below(4), byte, &lent[0][0]);
+    met_often(0), met_often(9);
+}
+
+/* document 01, "Both sides of each edge" */
+static void both_sides_of_each_edge(void) {
+    const struct tables *t = &lent[0][0];
+    zk_a_state s = zk_a_reset(good_state()).state;
+    s = one_write(s, 0, 0x10, t), s = one_write(s, 1, 0x03, t), s = one_read(s, 0, t);
+    s = one_write(s, 1, 0x07, t), s = one_write(s, 1, 0x02, t), one_write(s, 1, 0x01, t);
+    CHECK(t->colours[48] == 7 && t->colours[49] == 2 && t->colours[50] == 1, "entry 0x10 is not 7, 2, 1");
+    for (int position = 0; position < 24; position++) {
+        zk_a_state p = zk_a_reset(s).state;
+        p.clock.timing = 0x31, p.clock.position = (uint8_t)position;
+        zk_a_shown shown = zk_a_pixel(p, t->colours, 768, t->overlays, 12, 0, 0, 0x10);
+        int entry = position < 8 ? 0x10 : 0;
+        CHECK(memcmp(&shown.red, t->colours + 3 * entry, 3) == 0, "timing 31, position %d", position);
+        CHECK(zk_a_step(p.clock).clock.position == (position + 1) % 24, "timing 31, tick after %d", position);
+    }
+    s = zk_a_reset(s).state, s.readmask = 0xf0;
+    zk_a_shown shown = zk_a_pixel(s, t->colours, 768, t->overlays, 12, 0, 0, 0xa5);
+    CHECK(memcmp(&shown.red, t->colours + 3 * 0x05, 3) == 0, "read mask f0, byte a5 is not entry 05");
+}
+
+int main(void) {
+    check_start();
+    make_tables();
+    RUN(every_select_and_pointer);
+    RUN(any_state_and_length);
+    RUN(every_entry);
+    RUN(runs_of_calls);
+    RUN(reset_from_any_state);
+    RUN(every_clock);
+    RUN(every_pixel);
+    RUN(both_sides_of_each_edge);
+    FINISH();
+}
