@@ -1,8 +1,8 @@
 -- How many calls there are: the count, and at most 786. Assumes nothing.
-use Prim.Native.Nat.{ℕ, zero, suc, _+_, _*_, _-_, _≤_, _<_}
-use mathlib.Core.Path.{_≡_, refl, sym, ap, _∙_}
+use Prim.Native.Nat.{ℕ, _+_, _*_, _-_, _≤_, _<_}
+use mathlib.Core.Path.{_≡_, refl, ap, _∙_}
 use mathlib.Core.Bool.{Bool, true, false}
-use mathlib.Core.List.{List, [], _∷_, _++_, map}
+use mathlib.Core.List.{List, [], _∷_, map}
 use native.Mathlib.Omega.{arith}
 use native.Mathlib.Numerals.{add-one}
 use lib.ListN.{length, length-map, getD, take, drop, length-append, length-take, length-drop, drop-of-length-le}
@@ -12,8 +12,9 @@ use Rattle.sheet.specs.declared.Line.the-variants.{Has, Missing}
 use Rattle.sheet.specs.Sheet.{good, keys, sheetOf, registersOf, overlaysOf, coloursOf}
 use Rattle.sheet.proofs.Good.{sound}
 use Rattle.sheet_reader.specs.Reader.{lineFor}
-use Rattle.calls.specs.Calls.{registerCalls, addressCalls, colourCalls, entryCalls, isThere}
-use Rattle.calls.specs.Calls.{tableCalls, callsOf, callBytes, entryCount, tableCount, Kept}
+use Rattle.calls.specs.Calls.{registerCalls, entryCalls, isThere}
+use Rattle.calls.specs.Calls.{tableCalls, callsOf}
+use Rattle.calls.specs.Kept.{entryCount, tableCount, Kept}
 use Rattle.calls.proofs.Stored.{length-bytes, register-bytes}
 use Rattle.calls.proofs.Lent.{overlays-kept, colours-kept}
 
@@ -69,7 +70,13 @@ calls-bound l h =
     let r : length (registersOf l) ≤ 4 = simp length-take (omega arith) in
     let v : length (overlaysOf l) ≤ 4 = simp length-take (omega arith) in
     let w : length (coloursOf l) ≡ 256 = length-drop 9 l ∙ rw h in
-    omega (arith, length-calls l, register-bound 4 (registersOf l), count-bound (overlaysOf l), count-bound (coloursOf l))
+    omega (
+      arith,
+      length-calls l,
+      register-bound 4 (registersOf l),
+      count-bound (overlaysOf l),
+      count-bound (coloursOf l),
+    )
 
 pub sheet-calls-bound : (t : List ℕ) (l : List Line) → sheetOf t ≡ good l → length (callsOf l) ≤ 786
 sheet-calls-bound t l e = calls-bound l (sound t l e .long)

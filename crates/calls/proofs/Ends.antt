@@ -1,11 +1,11 @@
 -- The whole step, by how it ends. Assumes nothing.
 use Prim.Native.Nat.{ℕ, zero, suc, _+_, _*_, _^_, _≤_, _<_}
-use mathlib.Core.Path.{_≡_, refl, sym, ap, _∙_}
-use mathlib.Core.Bool.{true, false}
+use mathlib.Core.Path.{_≡_, refl, sym, _∙_}
+use mathlib.Core.Bool.{true}
 use mathlib.Core.List.{List, [], _∷_, _++_, map}
 use native.Mathlib.Omega.{arith}
 use lib.Dec.{ltb}
-use lib.ListN.{length, length-map, getD}
+use lib.ListN.{length, length-map}
 use borrow.Author.Tests.{lt-ltb, le-ltb, ltb-true, ltb-false}
 use Rattle.vocabulary.specs.Refusal.{Refusal, lentLength, outOfRange, noAccess, noIndex, readMode, stillWaiting}
 use Rattle.vocabulary.specs.Refusal.{overFifteen, malformed, shortBuffer}
@@ -15,12 +15,12 @@ use Rattle.vocabulary.proofs.Outcome.{refused-as, accepted-does}
 use Rattle.vocabulary.proofs.Range.{clash}
 use Rattle.sheet.specs.declared.Answer.the-variants.{Done, Refused}
 use Rattle.sheet.specs.declared.Line.{Line}
-use Rattle.sheet.specs.declared.Line.the-variants.{Has, Missing}
-use Rattle.sheet.specs.Sheet.{Reading, good, bad, keys, keyAt, width, required, sheetOf, pasted, outcome}
+use Rattle.sheet.specs.Sheet.{good, bad, keys, keyAt, width, required, sheetOf, pasted, outcome}
 use Rattle.sheet.proofs.Texts.{required-first, width-register}
 use Rattle.sheet.proofs.Good.{Lawful, sound}
 use Rattle.sheet_reader.specs.Reader.{lineFor, readingOf}
-use Rattle.calls.specs.Calls.{callsOf, callBytes, Kept, callRefusals, sheetToCalls}
+use Rattle.calls.specs.Calls.{callsOf, callBytes, callRefusals, sheetToCalls}
+use Rattle.calls.specs.Kept.{Kept}
 use Rattle.calls.proofs.Stored.{length-bytes, kept-missing, kept-has}
 
 -- what is tried before 8
@@ -28,12 +28,14 @@ abbrev before : List Refusal
 before = lentLength ∷ outOfRange ∷ noAccess ∷ noIndex ∷ readMode ∷ stillWaiting ∷ overFifteen ∷ []
 
 -- a bad sheet is refusal 8, with its line
-pub malformed-eight : (t out : List ℕ) (n : ℕ) → bad (suc n) ≡ sheetOf t → outcome (Refused 8 (suc n)) out ≡ sheetToCalls t out
+pub malformed-eight : (t out : List ℕ) (n : ℕ) → bad (suc n) ≡ sheetOf t
+    → outcome (Refused 8 (suc n)) out ≡ sheetToCalls t out
 unfolding sheetToCalls
 malformed-eight t out n e =
     rw (sym e)
     (sym (refused-as 7 (suc n) out _
-    (refusal-is (callRefusals (bad (suc n)) out) before malformed _ refl (refl, (refl, (refl, (refl, (refl, (refl, (refl, tt)))))))
+    (refusal-is (callRefusals (bad (suc n)) out) before malformed _ refl
+    (refl, (refl, (refl, (refl, (refl, (refl, (refl, tt)))))))
     refl)))
 
 pub refused-bad : (t out : List ℕ) (n : ℕ) (kept : List ℕ) → readingOf n kept ≡ sheetOf t → (n ≡ 0 → ⊥)

@@ -12,7 +12,8 @@ use Rattle.sheet.specs.Sheet.{pasted, Wrote, registersOf, overlaysOf, coloursOf
 use Rattle.sheet.proofs.Paste.{pasted-more, length-pasted, wrote-more, lent-on, length-lent}
 use Rattle.sheet_reader.specs.Reader.{lineFor}
 use Rattle.calls.specs.Calls.{registerCalls, addressCalls, colourCalls, entryCalls, tableCalls, tablesCalls}
-use Rattle.calls.specs.Calls.{callsOf, callBytes, Kept}
+use Rattle.calls.specs.Calls.{callsOf, callBytes}
+use Rattle.calls.specs.Kept.{Kept}
 use Rattle.calls.proofs.Stored.{bytes-append, kept-has, register-bytes}
 
 -- A word in two parts: the first is written, and the second into the rest behind it.
@@ -95,4 +96,8 @@ module _ (kept out : List ℕ) where
 
   pub registers-fit : Kept kept → length (callBytes (callsOf (map lineFor kept))) ≤ length out → 8 ≤ length out
   registers-fit k h =
-      omega (arith, ap length (register-bytes kept k), simp length-append at (ap length (calls-split (map lineFor kept))))
+      omega (
+        arith,
+        ap length (register-bytes kept k),
+        simp length-append at (ap length (calls-split (map lineFor kept))),
+      )

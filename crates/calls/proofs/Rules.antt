@@ -1,25 +1,26 @@
 -- What the list rules out: an entry without its address, a missing one that is touched, 7 before 8. Assumes nothing.
 use Prim.Native.Nat.{ℕ, zero, suc, _+_}
-use mathlib.Core.Path.{_≡_, refl, sym, ap, _∙_}
+use mathlib.Core.Path.{_≡_, refl, sym}
 use mathlib.Core.Bool.{Bool, true, false}
-use mathlib.Core.List.{List, [], _∷_, _++_, append-nil}
+use mathlib.Core.List.{List, [], _∷_, _++_}
 use native.Mathlib.Omega.{arith}
 use lib.ListN.{replicate}
-use Rattle.vocabulary.specs.Outcome.{Outcome, refusing}
+use Rattle.vocabulary.specs.Outcome.{refusing}
 use Rattle.sheet.specs.declared.Line.{Line}
 use Rattle.sheet.specs.declared.Line.the-variants.{Has, Missing}
 use Rattle.sheet.specs.Sheet.{bad, sheetOf}
-use Rattle.calls.specs.Calls.{Call, call, addressCalls, colourCalls, entryCalls, isThere, tableCalls, sheetToCalls}
+use Rattle.calls.specs.Calls.{call, colourCalls, entryCalls, tableCalls, sheetToCalls}
 use Rattle.calls.proofs.Ends.{malformed-eight}
 
 -- entries that are missing are not touched: they have no call
-pub missing-untouched : (select entry n : ℕ) (follows : Bool) → tableCalls select entry follows (replicate n Missing) ≡ []
+pub missing-untouched : (select entry n : ℕ) (follows : Bool)
+    → tableCalls select entry follows (replicate n Missing) ≡ []
 unfolding tableCalls entryCalls
 missing-untouched select entry zero follows = refl
 missing-untouched select entry (suc n) follows = missing-untouched select (entry + 1) n false
 
--- behind a gap, or missing entries at a table's start, an entry's address is written: whatever stood before, o3 before c04
--- too
+-- behind missing entries, in a gap or at a table's start, an entry's address is written, whatever stood before: o3
+-- before c04 too
 pub address-after-gap : (select entry n : ℕ) (follows : Bool) (v : ℕ) (l : List Line)
     → tableCalls select entry follows (replicate (suc n) Missing ++ (Has v ∷ l))
     ≡ call 0 (entry + suc n) ∷ colourCalls select v ++ tableCalls select (entry + suc n + 1) true l

@@ -1,20 +1,20 @@
 -- Calls as bytes, and as they are stored. Assumes nothing.
-use Prim.Native.Nat.{ℕ, zero, suc, _+_, _*_, _/_, _%_, _≤_, _<_}
-use mathlib.Core.Path.{_≡_, refl, sym, ap, _∙_}
+use Prim.Native.Nat.{ℕ, suc, _+_, _*_, _/_, _%_, _≤_, _<_}
+use mathlib.Core.Path.{_≡_, refl, sym, ap}
 use mathlib.Core.Bool.{Bool, true, false}
 use mathlib.Core.List.{List, [], _∷_, _++_, map}
 use native.Mathlib.Omega.{arith}
 use lib.Dec.{ltb}
-use lib.ListN.{length, getD, set, take, drop}
+use lib.ListN.{length, getD, set}
 use lib.Seq.{sets, sets-eq}
 use borrow.Author.Tests.{lt-ltb, le-ltb}
 use Rattle.vocabulary.specs.Choice.{pick}
-use Rattle.sheet.specs.declared.Line.{Line}
 use Rattle.sheet.specs.declared.Line.the-variants.{Has, Missing}
-use Rattle.sheet.specs.Sheet.{keys, registersOf, pasted, Wrote}
+use Rattle.sheet.specs.Sheet.{registersOf, pasted, Wrote}
 use Rattle.sheet.proofs.Paste.{pasted-none}
 use Rattle.sheet_reader.specs.Reader.{lineFor}
-use Rattle.calls.specs.Calls.{Call, call, registerCalls, addressCalls, colourCalls, entryCalls, isThere, callBytes, Kept}
+use Rattle.calls.specs.Calls.{Call, registerCalls, colourCalls, isThere, callBytes}
+use Rattle.calls.specs.Kept.{Kept}
 
 pub bytes-append : (l m : List Call) → callBytes (l ++ m) ≡ callBytes l ++ callBytes m
 unfolding callBytes

@@ -1,16 +1,15 @@
 -- The call list of a sheet: document 01, "The sheet and its calls". A call is a write of a byte to a select of chip A.
-use Prim.Native.Nat.{ℕ, _+_, _<_}
-use mathlib.Core.Path.{_≡_}
+use Prim.Native.Nat.{ℕ, _+_}
 use mathlib.Core.Bool.{Bool, true, false}
 use mathlib.Core.List.{List, [], _∷_, _++_}
 use lib.Dec.{ltb}
-use lib.ListN.{length, getD}
+use lib.ListN.{length}
 use Rattle.vocabulary.specs.Refusal.{Row, _when_, malformed, shortBuffer, refusalOf}
 use Rattle.vocabulary.specs.Outcome.{Outcome, accepting, answeredAt}
 use Rattle.sheet.specs.declared.Line.{Line}
 use Rattle.sheet.specs.declared.Line.the-variants.{Has, Missing}
 use Rattle.sheet.specs.Sheet.{Reading, sheetOf, linesOf, badLine, isBad, registersOf, overlaysOf, coloursOf}
-use Rattle.sheet.specs.Sheet.{redOf, greenOf, blueOf, pasted, keys}
+use Rattle.sheet.specs.Sheet.{redOf, greenOf, blueOf, pasted}
 
 pub record Call : Type 0 where
   pub select : ℕ
@@ -61,23 +60,6 @@ callsOf l = registerCalls 4 (registersOf l) ++ tablesCalls l
 unfoldable pub callBytes : List Call → List ℕ
 callBytes [] = []
 callBytes (x ∷ l) = x .select ∷ x .byte ∷ callBytes l
-
--- how many calls an entry and a table have, the same for both tables (proofs/Count.antt, `count-is`)
-unfoldable pub entryCount : Bool → Line → ℕ
-entryCount follows (Has v) = length (addressCalls follows 0) + 3
-entryCount follows Missing = 0
-
-unfoldable pub tableCount : Bool → List Line → ℕ
-tableCount follows [] = 0
-tableCount follows (x ∷ l) = entryCount follows x + tableCount (isThere x) l
-
--- a good sheet's lines as they are kept: one for each key, and the registers' are bytes
-pub record Kept (kept : List ℕ) : Type 0 where
-  pub long : length kept ≡ keys
-  pub read : getD kept 1 0 < 256
-  pub blink : getD kept 2 0 < 256
-  pub control : getD kept 3 0 < 256
-  pub timing : getD kept 4 0 < 256
 
 -- when the step is refused: a malformed sheet, a buffer shorter than the list
 abbrev pub callRefusals : Reading → List ℕ → List Row

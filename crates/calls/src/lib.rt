@@ -1,8 +1,8 @@
 // The call list of a sheet: the writes to chip A that load it.
 //
 // Document 01, "The sheet and its calls", decides; specs/Calls.antt says what the list is and when the step is refused,
-// and each call equals it. A call is two bytes of the buffer, select and byte. The caller owns the buffer; bytes past the
-// list keep their values, and a refusal writes none. Not modelled: form 2, and whether the chip is there.
+// and each call equals it. A call is two bytes of the buffer, select and byte. The caller owns the buffer; bytes past
+// the list keep their values, and a refusal writes none. Not modelled: whether a chip is there to take the calls.
 ghost use mathlib.Core.Path.{_≡_};
 ghost use mathlib.Core.Bool.{false};
 ghost use mathlib.Core.List.{[], _∷_, map};
@@ -11,8 +11,8 @@ ghost use lib.ListN.{length};
 ghost use Rattle.sheet.specs.Sheet.{registersOf, outcome, heard, telling, pasted, Wrote};
 ghost use Rattle.sheet_reader.specs.Reader.{lineFor};
 ghost use Rattle.calls.specs.Calls.{call, addressCalls, colourCalls, entryCalls, tableCalls};
-ghost use Rattle.calls.specs.Calls.{registerCalls, tablesCalls, callsOf, callBytes, entryCount, tableCount};
-ghost use Rattle.calls.specs.Calls.{Kept, sheetToCalls};
+ghost use Rattle.calls.specs.Calls.{registerCalls, tablesCalls, callsOf, callBytes, sheetToCalls};
+ghost use Rattle.calls.specs.Kept.{entryCount, tableCount, Kept};
 use sheet::Answer;
 
 // The low four bits.
@@ -77,8 +77,8 @@ fn put_entry(out: &mut [u8], at: usize, select: u8, entry: u8, follows: bool, ke
 fn table_calls(kept: &[u16], select: u8, out: &mut [u8]) -> usize
     requires { ⌜ (length (now kept) ≤ 256)
         × (length (callBytes (tableCalls select 0 false (map lineFor (now kept)))) ≤ length (now out)) ⌝ }
-    ensures { λ r. ⌜ Wrote (now (out .entry)) 0 (callBytes (tableCalls select 0 false (map lineFor (now (kept .entry)))))
-        r (now (out .exit)) ⌝ }
+    ensures { λ r. ⌜ Wrote (now (out .entry)) 0
+        (callBytes (tableCalls select 0 false (map lineFor (now (kept .entry))))) r (now (out .exit)) ⌝ }
 {
     let mut entry: usize = 0;
     let mut at: usize = 0;
@@ -148,8 +148,8 @@ fn put_registers(out: &mut [u8], read: u8, blink: u8, control: u8, timing: u8) -
 
 fn register_calls(kept: &[u16], out: &mut [u8]) -> usize
     requires { ⌜ Kept (now kept) × (8 ≤ length (now out)) ⌝ }
-    ensures { λ r. ⌜ Wrote (now (out .entry)) 0 (callBytes (registerCalls 4 (registersOf (map lineFor (now (kept .entry))))))
-        r (now (out .exit)) ⌝ }
+    ensures { λ r. ⌜ Wrote (now (out .entry)) 0
+        (callBytes (registerCalls 4 (registersOf (map lineFor (now (kept .entry)))))) r (now (out .exit)) ⌝ }
 {
     let read = narrow(kept[1]);
     let blink = narrow(kept[2]);

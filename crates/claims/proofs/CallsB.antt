@@ -1,8 +1,7 @@
 -- Chip B's calls: each judged by its table, and each determined by its promise. Assumes nothing.
-use Prim.Native.Nat.{ℕ, _+_, _*_, _/_, _%_, _<_}
-use mathlib.Core.Path.{_≡_, refl}
+use Prim.Native.Nat.{ℕ}
+use mathlib.Core.Path.{_≡_, refl, sym, _∙_}
 use mathlib.Core.List.{List}
-use native.Mathlib.Omega.{arith}
 use Rattle.vocabulary.specs.Outcome.{Outcome}
 use Rattle.ms622424.specs.declared.State.{State}
 use Rattle.ms622424.specs.declared.Answer.{Answer}
@@ -10,11 +9,12 @@ use Rattle.ms622424.specs.declared.Shown.{Shown}
 use Rattle.ms622424.specs.Ms622424.{Chip, chip, Register, addressLow, addressHigh, palette, command, status, buffer}
 use Rattle.ms622424.specs.Ms622424.{revision, initialization, none, registerAt, written, answers}
 use Rattle.ms622424.specs.Ms622424.{writeRefusals, write, readRefusals, read, blankRefusals, blank, pixelRefusals}
-use Rattle.ms622424.specs.Ms622424.{pixel, syncRefusals, sync, resetRefusals, reset, outcome, showing, pout}
+use Rattle.ms622424.specs.Ms622424.{pixel, syncRefusals, sync, resetRefusals, reset, outcome, showing}
+use Rattle.ms622424_pixel.proofs.Outputs.{showing-once}
 use Rattle.claims.specs.Judged.{Judged}
 use Rattle.claims.specs.Determined.{Determined, DeterminedOf, Bytes}
 use Rattle.claims.proofs.Judged.{judged}
-use Rattle.claims.proofs.Determined.{determined, determined-of}
+use Rattle.claims.proofs.Determined.{determined}
 
 -- ---- judged: what an access does where no refusal stands is no refusal
 accepts : (r : Register) (byte : ℕ) (c : Chip) → (written r byte c .refusal ≡ 0) × (answers r c .refusal ≡ 0)
@@ -58,26 +58,6 @@ module _ (c : Chip) where
 answerOf : Outcome Chip → Answer
 answerOf o = record { refusal = o .refusal; value = o .value; count = o .count; state = o .left .state }
 
--- the three bytes of the 24 lines
-shownOf : Outcome Chip → Shown
-shownOf o = record {
-  refusal = o .refusal;
-  red = o .value % 256;
-  green = o .value / 256 % 256;
-  blue = o .value / 65536;
-}
-
-shown-back : (n r g b : ℕ) (c : Chip) → r < 256 → g < 256
-    → let a : Shown = record { refusal = n; red = r; green = g; blue = b } in shownOf (showing a c) ≡ a
-unfolding shownOf
-shown-back n r g b c hr hg =
-    let word = pout r g b in
-    let er : word % 256 ≡ r = omega arith in
-    let q : word / 256 ≡ g + 256 * b = omega arith in
-    let eg : word / 256 % 256 ≡ g = rw q (omega arith) in
-    let eb : word / 65536 ≡ b = omega arith in
-    cc
-
 -- calls that are lent queue and map to change, whatever outcome they promise
 abbrev pub Changed : Outcome Chip → Type 0
 Changed d = Determined {A = Answer × List ℕ × List ℕ} (λ x. outcome (x .0) (x .1) (x .2)) d
@@ -115,5 +95,5 @@ module _ (s : State) (queue map : List ℕ) where
 
   pub pixel-determined : (mode word : ℕ)
       → DeterminedOf Bytes (λ (a : Shown). showing a (chip s queue map)) (pixel mode word (chip s queue map))
-  pixel-determined mode word = determined-of _ shownOf Bytes
-      (λ a h. shown-back (a .refusal) (a .red) (a .green) (a .blue) (chip s queue map) (h .0) (h .1)) _
+  pixel-determined mode word a b ha hb e f =
+      showing-once a b (chip s queue map) (ha .0) (ha .1) (ha .2) (hb .0) (hb .1) (hb .2) (e ∙ sym f)

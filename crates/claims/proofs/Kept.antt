@@ -1,8 +1,10 @@
--- NO CHIP LOCKS ITSELF OUT: a call on a chip in range leaves it in range. Assumes nothing.
+-- NO CHIP LOCKS ITSELF OUT: one in range is not refused for its state, and every call leaves it in range. Assumes
+-- nothing.
 use Prim.Native.Nat.{ℕ, _+_, _<_}
 use native.Mathlib.Nat.{mod-lt}
 use native.Mathlib.Omega.{arith}
 use Rattle.vocabulary.specs.Range.{Holds}
+use Rattle.vocabulary.proofs.Range.{holds-passes}
 use Rattle.vocabulary.proofs.Refusal.{none-exactly}
 use Rattle.vocabulary.proofs.Outcome.{left-holds}
 use Rattle.hd153108.specs.declared.Clock.{Clock}
@@ -13,6 +15,7 @@ use Rattle.hd153108.specs.Hd153108.{red, green, blue, stepped, moved, ranges, c
 use Rattle.hd153108.specs.Hd153108.{accessRefusals, write, read, tick, reset}
 use Rattle.load.specs.Load.{InRange}
 use Rattle.load.proofs.Writes.{write-in-range}
+use Rattle.ms622424.proofs.Access.{lengths-right, ranges-right}
 use Rattle.ms622424_unseen.proofs.Kept.{call-sound}
 use Rattle.claims.specs.Kept.{NeverLockedOut}
 
@@ -63,6 +66,8 @@ reset-in-range s = omega arith
 -- ---- the chips together
 pub never-locked-out : NeverLockedOut
 never-locked-out = record {
+  a-clear = λ c g. (holds-passes _ (g .tables), holds-passes _ (g .state));
+  b-clear = λ c h. (lengths-right c h, ranges-right c h);
   a-write = write-keeps;
   a-read = read-keeps;
   a-tick = tick-keeps;

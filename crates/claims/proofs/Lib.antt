@@ -10,3 +10,4 @@ pub mod Kept
 pub mod MovesA
 pub mod MovesB
 pub mod MovesC
+pub mod Impostors

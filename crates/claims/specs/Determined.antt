@@ -18,7 +18,7 @@ Determined {A = A} says d = DeterminedOf {A = A} (λ a. Unit) says d
 
 -- the bytes of a pixel
 abbrev pub Bytes : Shown → Type 0
-Bytes a = (a .red < 256) × (a .green < 256)
+Bytes a = (a .red < 256) × (a .green < 256) × (a .blue < 256)
 
 -- a refusal that an enum holds has a number; `Refused(0)` would mean what `Ten(0)` and `Done(0)` mean
 abbrev pub Expansion : Expanded → Type 0

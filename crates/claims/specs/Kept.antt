@@ -1,7 +1,9 @@
 -- A call on a chip in range leaves it in range, so that a chip never locks itself out: the chips together.
 -- What is in range is what refusals 1 and 9 test. A byte is one that its type holds.
 use Prim.Native.Nat.{ℕ, _<_}
-use Rattle.vocabulary.specs.Range.{Holds}
+use mathlib.Core.Path.{_≡_}
+use mathlib.Core.Bool.{Bool, false}
+use Rattle.vocabulary.specs.Range.{fails, Holds}
 use Rattle.hd153108.specs.declared.Clock.{Clock}
 use Rattle.hd153108.specs.declared.State.{State}
 use Rattle.hd153108.specs.Hd153108
@@ -9,7 +11,14 @@ use Rattle.load.specs.Load.{InRange}
 use Rattle.ms622424.specs.Ms622424
 use Rattle.ms622424_unseen.specs.Unseen
 
+-- not refused for its tables or its state
+abbrev pub Clear : Bool → Bool → Type 0
+Clear short outside = (short ≡ false) × (outside ≡ false)
+
 pub record NeverLockedOut : Type 0 where
+  -- a chip in range is refused neither for 1 nor for its state's 9
+  pub a-clear : (c : Hd153108.Chip) → InRange c → Clear (Hd153108.short c) (Hd153108.outside c)
+  pub b-clear : (c : Ms622424.Chip) → Ms622424.Sound c → Clear (Ms622424.shortTable c) (fails (Ms622424.ranges c))
   -- chip A, whatever is written or read, and its clock; a reset's state is in range from any state at all
   pub a-write : (select byte : ℕ) (c : Hd153108.Chip) → byte < 256 → InRange c
       → InRange (Hd153108.write select byte c .left)

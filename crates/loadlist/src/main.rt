@@ -1,9 +1,9 @@
 // loadlist: one sheet on standard input, its calls on standard output.
 //
-// Document 01, "The sheet and its calls", decides. The first 4,096 bytes of the input decide: a good sheet is no longer
-// (proofs/Size.antt of crate sheet), and a line of a bad one is found in them. Short reads are joined. It prints one call a
-// line, `w`, select, `=`, byte in hex; or the two lines `refused=8` and `line=`, with the number of the first bad or
-// missing line. The list is made by crate calls; its buffer holds the longest there is, 786 calls.
+// Document 01, "The sheet and its calls", decides. The first 4,096 bytes of the input decide: a good sheet has at most
+// 2,134 (proofs/Size.antt of crate sheet). Short reads are joined. It prints one call a line, `w`, select, `=`, byte in
+// hex; or the two lines `refused=8` and `line=`, with the number of the first bad or missing line. The list is made by
+// crate calls; its buffer holds the longest there is, 786 calls.
 ghost use mathlib.Core.Path.{_≡_};
 ghost use mathlib.Core.List.{[], _∷_};
 ghost use Prim.Native.Nat.{_/_, _%_};

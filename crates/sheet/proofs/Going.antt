@@ -7,8 +7,8 @@ use lib.ListN.{length, length-append}
 use Rattle.sheet.specs.Sheet.{pasted, Wrote}
 use Rattle.sheet.proofs.Paste.{pasted-none, pasted-more, length-pasted}
 
--- Of a word that goes over `start`, the part `left` is still to be written, from the place `at` on, and `out` is the buffer
--- so far: what is left fits, and with it the buffer is as it is to be.
+-- Of a word that goes over `start`, the part `left` is still to be written, from the place `at` on, and `out` is the
+-- buffer so far: what is left fits, and with it the buffer is as it is to be.
 pub record Going (word start out : List ℕ) (at : ℕ) (left : List ℕ) : Type 0 where
   pub same : length out ≡ length start
   pub room : at + length left ≤ length out

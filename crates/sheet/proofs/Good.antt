@@ -1,16 +1,15 @@
 -- What a good sheet is: one line for each key, each lawful, and its text is that of its lines. Assumes nothing.
-use Prim.Native.Nat.{ℕ, zero, suc, _+_, _*_, _^_, _≤_, _<_}
-use mathlib.Core.Path.{_≡_, refl, sym, ap, _∙_}
+use Prim.Native.Nat.{ℕ, zero, suc, _+_, _^_, _<_}
+use mathlib.Core.Path.{_≡_, refl, sym, ap}
 use mathlib.Core.Bool.{Bool, true, false}
-use mathlib.Core.List.{List, [], _∷_, _++_}
+use mathlib.Core.List.{List, [], _∷_}
 use native.Mathlib.Omega.{arith}
 use lib.ListN.{length, drop}
 use Rattle.vocabulary.specs.Choice.{pick}
-use Rattle.vocabulary.proofs.Range.{clash}
 use Rattle.sheet.specs.declared.Line.{Line}
 use Rattle.sheet.specs.declared.Line.the-variants.{Has, Missing}
-use Rattle.sheet.specs.Sheet.{Key, keys, keyAt, width, takes, required, lineText, lineOf, Reading, good, bad, led}
-use Rattle.sheet.specs.Sheet.{ended, onward, readFrom, sheetOf, textFrom}
+use Rattle.sheet.specs.Sheet.{keys, keyAt, width, takes, required, lineText, lineOf, Reading, good, bad, led}
+use Rattle.sheet.specs.Sheet.{ended, readFrom, sheetOf, textFrom}
 use Rattle.sheet.proofs.Lines.{line-is, line-taken, line-below}
 
 -- what the lines from key k on may be: a value that the key takes, of no more digits; or missing, where it may be

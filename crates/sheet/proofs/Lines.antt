@@ -8,11 +8,9 @@ use native.Mathlib.Omega.{arith}
 use lib.Dec.{leb}
 use lib.ListN.{length, getD, drop, length-append}
 use lib.Seq.{getD-append-add, getD-at}
-use borrow.Author.Tests.{leb-true, leb-false, lt-ltb}
+use borrow.Author.Tests.{leb-true, leb-false}
 use Rattle.vocabulary.specs.Choice.{pick}
-use Rattle.vocabulary.proofs.Choice.{cases, picks-first, picks-second}
-use Rattle.vocabulary.proofs.Range.{clash}
-use Rattle.sheet.specs.declared.Line.{Line}
+use Rattle.vocabulary.proofs.Choice.{cases}
 use Rattle.sheet.specs.declared.Line.the-variants.{Has, Missing}
 use Rattle.sheet.specs.Sheet.{hexDigit, hexValue, hex, number, Key, front, width, takes, lineText, starts, spelt}
 use Rattle.sheet.specs.Sheet.{lineOf}
@@ -119,7 +117,8 @@ spells zero v f x h = omega (arith, rw (pow-zero 16) at h)
 spells (suc w) v f x h =
     let d = hexDigit (v % 16) in
     let g = rw (pow-suc 16 w) at h in
-    let before : number w (length f) (f ++ (hex w (v / 16) ++ d ∷ x)) ≡ v / 16 = spells w (v / 16) f (d ∷ x) (omega arith) in
+    let before : number w (length f) (f ++ (hex w (v / 16) ++ d ∷ x)) ≡ v / 16 =
+    spells w (v / 16) f (d ∷ x) (omega arith) in
     let at : getD (f ++ (hex w (v / 16) ++ d ∷ x)) (length f + w) 0 ≡ d =
     getD-append-add f (hex w (v / 16) ++ d ∷ x) w 0 ∙ getD-at (hex w (v / 16)) d x 0 w (length-hex w (v / 16)) in
     rw (append-assoc (hex w (v / 16)) (d ∷ []) x, before, at, value-digit (v % 16) (omega arith)) (omega arith)

@@ -1,15 +1,17 @@
--- How long a sheet is: 2,134 bytes with all its lines, and no good sheet is longer. Assumes nothing.
+-- How long a sheet is: 2,134 bytes with all its lines, and no good sheet is longer; and the last line that can be bad.
+-- Assumes nothing.
 use Prim.Native.Nat.{ℕ, zero, suc, _+_, _*_, _≤_, _<_}
 use mathlib.Core.Path.{_≡_, refl, sym, ap, _∙_}
 use mathlib.Core.List.{List, [], _∷_, _++_, append-assoc, map, map-append}
 use native.Mathlib.Nat.{mul-zero, mul-suc}
 use native.Mathlib.Omega.{arith}
 use lib.ListN.{length, length-map, take, drop, length-append, length-take, length-drop, take-append-drop}
-use lib.Seq.{drop-drop}
 use Rattle.vocabulary.specs.Choice.{pick}
 use Rattle.sheet.specs.declared.Line.{Line}
 use Rattle.sheet.specs.declared.Line.the-variants.{Has, Missing}
-use Rattle.sheet.specs.Sheet.{hex, keys, keyAt, front, lineText, good, sheetOf, textFrom}
+use Rattle.vocabulary.proofs.Choice.{picks-first, picks-second, cases}
+use Rattle.sheet.specs.Sheet.{hex, keys, keyAt, front, required, lineText, lineOf, Reading, good, bad, led, ended}
+use Rattle.sheet.specs.Sheet.{readFrom, sheetOf, badLine, textFrom}
 use Rattle.sheet.proofs.Texts.{line-length, key-o, key-c}
 use Rattle.sheet.proofs.Good.{sound}
 
@@ -103,3 +105,30 @@ pub sheet-bytes : (t : List ℕ) (l : List Line) → sheetOf t ≡ good l → le
 sheet-bytes t l e =
     let s = sound t l e in
     omega (arith, ap length (s .text), no-longer l 0, length-all (map orZero l) (length-map l orZero ∙ s .long))
+
+-- a bad line's number is at most 266
+bad-led : (x : Line) (r : Reading) → badLine (led x r) ≡ badLine r
+bad-led x (good l) = refl
+bad-led x (bad n) = refl
+
+bad-ended : (t : List ℕ) (n : ℕ) → badLine (ended t n) ≤ n + 0
+bad-ended [] n = omega arith
+bad-ended (b ∷ t) n = omega arith
+
+module _ (more k n : ℕ) (t : List ℕ) (on : (n : ℕ) (t : List ℕ) → badLine (readFrom more (k + 1) n t) ≤ n + more) where
+  bad-step : (x : Line) → lineOf (keyAt k) t ≡ x → badLine (readFrom (suc more) k n t) ≤ n + suc more
+  unfolding readFrom
+  bad-step (Has v) e = rw (e, bad-led) (omega (arith, on (n + 1) (drop (length (lineText (keyAt k) v)) t)))
+  bad-step Missing e =
+      rw e
+      (cases (required (keyAt k))
+      (λ b. rw (picks-first (bad n) _ b) (omega arith))
+      (λ b. rw (picks-second (bad n) _ b, bad-led) (omega (arith, on n t))))
+
+bad-from : (more k n : ℕ) (t : List ℕ) → badLine (readFrom more k n t) ≤ n + more
+unfolding readFrom
+bad-from zero k n t = bad-ended t n
+bad-from (suc more) k n t = bad-step more k n t (λ m s. bad-from more (k + 1) m s) (lineOf (keyAt k) t) refl
+
+pub bad-bound : (t : List ℕ) → badLine (sheetOf t) ≤ 266
+bad-bound t = bad-from keys 0 1 t

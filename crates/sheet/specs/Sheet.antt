@@ -142,8 +142,8 @@ abbrev pub onward : Line → (ℕ → Reading) → Reading → Reading
 onward (Has v) with without = with v
 onward Missing with without = without
 
--- The last `more` keys, from key k on, in the text t, which starts at line n. A key's line is there and the rest follows
--- it; or the key is missing, which is bad where it is required. So the keys come in order and once each.
+-- The last `more` keys, from key k on, in the text t, which starts at line n. A key's line is there and the rest
+-- follows it; or the key is missing, which is bad where it is required. So the keys come in order and once each.
 unfoldable pub readFrom : ℕ → ℕ → ℕ → List ℕ → Reading
 readFrom zero k n t = ended t n
 readFrom (suc more) k n t =
@@ -167,7 +167,7 @@ abbrev pub isBad : Reading → Bool
 isBad (good l) = false
 isBad (bad n) = true
 
--- the registers of a good sheet (read mask, blink mask, overlay control, blink timing), its overlay entries, its colours
+-- of a good sheet: the registers (read mask, blink mask, overlay control, blink timing), the overlays, the colours
 abbrev pub registersOf : List Line → List Line
 registersOf l = take 4 (drop 1 l)
 

@@ -1,8 +1,8 @@
 // A sheet of chip A: its definitions, and the text of one line, which its reader and its writer share.
 //
-// Document 01, "The sheet and its calls", decides; specs/Sheet.antt says it all: the grammar, the writer, what an answer
-// says. The reader is in sheet_reader, the writer in sheet_writer, the call list in calls.
-// Keys are numbered from 0 in the sheet's order: the five first lines, o0 to o3, c00 to cff.
+// Document 01, "The sheet and its calls", decides; specs/Sheet.antt says it all: the grammar, the writer, what an
+// answer says. The reader is in sheet_reader, the writer in sheet_writer, the call list in calls. Keys are numbered
+// from 0 in the sheet's order: the five first lines, o0 to o3, c00 to cff. Not modelled: any other chip's sheet.
 ghost use mathlib.Core.Path.{_≡_};
 ghost use Prim.Native.Nat.{_+_, _%_, _≤_, _<_};
 ghost use lib.ListN.{length, take, getD};

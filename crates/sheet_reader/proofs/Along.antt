@@ -1,21 +1,20 @@
 -- What one line is to the sheet from the key that is due on. Assumes nothing.
-use Prim.Native.Nat.{ℕ, zero, suc, _+_, _-_, _≤_, _<_}
+use Prim.Native.Nat.{ℕ, suc, _+_, _-_, _≤_, _<_}
 use mathlib.Core.Path.{_≡_, refl, sym, ap, _∙_}
-use mathlib.Core.List.{List, [], _∷_, _++_}
+use mathlib.Core.List.{List, [], _∷_}
 use native.Mathlib.Omega.{arith}
 use lib.Dec.{ltb, eqb}
 use lib.ListN.{length, take, drop, replicate, length-drop}
 use lib.Seq.{drop-drop, take-all}
 use borrow.Author.Tests.{ltb-true, ltb-false, eqb-true, eqb-false}
 use Rattle.vocabulary.proofs.Choice.{cases}
-use Rattle.sheet.specs.declared.Line.{Line}
 use Rattle.sheet.specs.declared.Line.the-variants.{Has, Missing}
-use Rattle.sheet.specs.Sheet.{Key, keys, keyAt, front, width, lineText, lineOf, Reading, good, bad, led, ended, readFrom}
+use Rattle.sheet.specs.Sheet.{keys, keyAt, front, width, lineText, lineOf, Reading, bad, led, readFrom}
 use Rattle.sheet.proofs.Texts.{line-length, width-chip, width-register, width-entry}
 use Rattle.sheet.proofs.Lines.{line-fits, line-below}
-use Rattle.sheet_reader.specs.Reader.{named, leads, after, onFrom, Inside, Right}
+use Rattle.sheet_reader.specs.Reader.{named, leads, after, onFrom, Right}
 use Rattle.sheet_reader.specs.declared.Found.the-variants.{At, Bad}
-use Rattle.sheet_reader.proofs.Leads.{leads-append, leads-bad, has, pass, stop, skip}
+use Rattle.sheet_reader.proofs.Leads.{leads-append, leads-bad, has, stop, skip}
 use Rattle.sheet_reader.proofs.Naming.{named-first, other-missing}
 
 -- a value is below 4,096
@@ -124,5 +123,6 @@ module _ (text : List ℕ) (at due : ℕ) {t : List ℕ} {k : ℕ} (rest : t ≡
       let fits = line-fits (keyAt k) t v e in
       let all : length t ≡ length text - at = ap length rest ∙ length-drop at text in (
         (g, h, below k v t e, omega arith),
-        λ n. rw (sym rest, long, sym (drop-drop (length (lineText (keyAt k) v)) at text), sym rest) (along t due k v n g h is e),
+        λ n. rw (sym rest, long, sym (drop-drop (length (lineText (keyAt k) v)) at text), sym rest)
+            (along t due k v n g h is e),
       )

@@ -10,7 +10,7 @@ use borrow.Author.Tests.{lt-ltb}
 use Rattle.vocabulary.specs.Choice.{pick}
 use Rattle.sheet.specs.declared.Line.{Line}
 use Rattle.sheet.specs.declared.Line.the-variants.{Has, Missing}
-use Rattle.sheet.specs.Sheet.{keys, keyAt, lineOf, Reading, good, bad, readFrom, sheetOf}
+use Rattle.sheet.specs.Sheet.{keys, keyAt, lineOf, Reading, good, bad, readFrom}
 use Rattle.sheet.proofs.Lines.{line-fits}
 use Rattle.sheet.proofs.Texts.{line-length}
 use Rattle.sheet_reader.specs.Reader.{leads, after, lineFor, readingOf}
@@ -19,7 +19,9 @@ use Rattle.sheet_reader.proofs.Leads.{leads-append, leads-bad, leads-go
 -- a list of one number, cut
 take-same : (m r x : ℕ) → take m (replicate (m + r) x) ≡ replicate m x
 take-same zero r x = refl
-take-same (suc m) r x = let e : suc m + r ≡ suc (m + r) = omega arith in rw e (ap (λ (l : List ℕ). x ∷ l) (take-same m r x))
+take-same (suc m) r x =
+    let e : suc m + r ≡ suc (m + r) = omega arith in
+    rw e (ap (λ (l : List ℕ). x ∷ l) (take-same m r x))
 
 drop-same : (m r x : ℕ) → drop m (replicate (m + r) x) ≡ replicate r x
 drop-same zero r x = let e : 0 + r ≡ r = omega arith in rw e
@@ -117,5 +119,6 @@ module _ (text kept : List ℕ) (at due n : ℕ) (whole : Reading) (end : length
   ends-good h is =
       let r : readFrom (keys - due) due n (drop at text) ≡ good (replicate (keys - due) Missing) =
       rw (drop-of-length-le text end) (end-good due n h) in
-      ap good (sym (all-kept kept due is)) ∙ sym (leads-good (map lineFor (take due kept)) (replicate (keys - due) Missing))
+      ap good (sym (all-kept kept due is))
+      ∙ sym (leads-good (map lineFor (take due kept)) (replicate (keys - due) Missing))
       ∙ (rw r at e)

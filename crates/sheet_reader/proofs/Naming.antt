@@ -1,8 +1,8 @@
 -- The key that a line names. Assumes nothing.
 use Prim.Native.Nat.{ℕ, zero, suc, _+_, _-_, _*_, _/_, _%_, _≤_, _<_}
 use mathlib.Core.Path.{_≡_, refl, sym}
-use mathlib.Core.Bool.{true, false}
-use mathlib.Core.List.{List, [], _∷_, _++_}
+use mathlib.Core.Bool.{true}
+use mathlib.Core.List.{List, [], _∷_}
 use native.Mathlib.Omega.{arith}
 use lib.Dec.{ltb, eqb}
 use lib.ListN.{length, getD}
@@ -65,7 +65,15 @@ module _ (k : ℕ) (t : List ℕ) (v due : ℕ) (d : 5 ≤ due) where
       let t0 : getD t 0 0 ≡ 99 = starts-at _ t 0 s′ (omega arith) in
       let t1 : getD t 1 0 ≡ hexDigit ((k - 9) / 16 % 16) = starts-at _ t 1 s′ (omega arith) in
       let t2 : getD t 2 0 ≡ hexDigit ((k - 9) % 16) = starts-at _ t 2 s′ (omega arith) in
-      rw (le-ltb due 5 d, t0, t1, t2, m, value-digit ((k - 9) / 16) (omega arith), value-digit ((k - 9) % 16) (omega arith))
+      rw (
+        le-ltb due 5 d,
+        t0,
+        t1,
+        t2,
+        m,
+        value-digit ((k - 9) / 16) (omega arith),
+        value-digit ((k - 9) % 16) (omega arith),
+      )
       (omega arith)
 
   named-is : 5 ≤ k → k < keys → lineOf (keyAt k) t ≡ Has v → named t due ≡ k

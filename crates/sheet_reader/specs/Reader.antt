@@ -1,5 +1,5 @@
--- Reading a sheet line by line. What the sheet says is `sheetOf`; here is what one line's answer makes of it, and how what
--- was read is kept.
+-- Reading a sheet line by line. What the sheet says is `sheetOf`; here is what one line's answer makes of it, and how
+-- what was read is kept.
 use Prim.Native.Nat.{ℕ, zero, suc, _+_, _-_, _*_, _≤_, _<_}
 use mathlib.Core.Path.{_≡_}
 use mathlib.Core.List.{List, [], _∷_, _++_, map}
@@ -12,8 +12,8 @@ use Rattle.sheet.specs.Sheet.{hexValue, keys, Reading, good, bad, led, readFrom
 use Rattle.sheet_reader.specs.declared.Found.{Found}
 use Rattle.sheet_reader.specs.declared.Found.the-variants.{At, Bad}
 
--- The number of the key that a line names, where key `due` is the least that may come: one of the five first lines has to
--- be the one that is due; an entry's line names its table and its number. A line that names none has the number `keys`.
+-- The number of the key that a line names, where key `due` is the least that may come: one of the five first lines has
+-- to be the one that is due; an entry's line names its table and its number. A line that names none has number `keys`.
 unfoldable pub named : List ℕ → ℕ → ℕ
 named t due =
     pick (ltb due 5) due

@@ -1,8 +1,8 @@
 // The reader of a sheet, line by line.
 //
-// Document 01, "The sheet and its calls", decides; specs/Sheet.antt of crate sheet says what a sheet is, and `read` equals
-// it. Each line is read once, by the key that it names; its answer is an enum, and a bad line leaves at once with its
-// number. Any number of bytes may come in. Not modelled: form 2.
+// Document 01, "The sheet and its calls", decides; specs/Sheet.antt of crate sheet says what a sheet is, and `read`
+// equals it. Each line is read once, by the key that it names; its answer is an enum, and a bad line leaves at once
+// with its number. Any number of bytes may come in. Not modelled: files, and lines that end in CR.
 ghost use mathlib.Core.Path.{_≡_};
 ghost use Prim.Native.Nat.{_≤_, _<_};
 ghost use lib.ListN.{length};

@@ -1,12 +1,12 @@
 -- The whole call, by how it ends. Assumes nothing.
-use Prim.Native.Nat.{ℕ, zero, suc, _+_, _≤_, _<_}
-use mathlib.Core.Path.{_≡_, refl, sym, ap, _∙_}
-use mathlib.Core.Bool.{Bool, true, false, _||_}
-use mathlib.Core.List.{List, [], _∷_, _++_}
+use Prim.Native.Nat.{ℕ, _≤_, _<_}
+use mathlib.Core.Path.{_≡_, refl, sym, _∙_}
+use mathlib.Core.Bool.{true, false, _||_}
+use mathlib.Core.List.{List, [], _∷_}
 use native.Mathlib.Omega.{arith}
 use lib.ListN.{length}
 use borrow.Author.Tests.{lt-ltb, le-ltb}
-use Rattle.vocabulary.specs.Refusal.{Refusal, lentLength, outOfRange, noAccess, noIndex, readMode, stillWaiting}
+use Rattle.vocabulary.specs.Refusal.{lentLength, outOfRange, noAccess, noIndex, readMode, stillWaiting}
 use Rattle.vocabulary.specs.Refusal.{overFifteen, malformed, shortBuffer, refusalOf, standing}
 use Rattle.vocabulary.proofs.Refusal.{refusal-is, refusal-none, standing-clear, standing-first}
 use Rattle.vocabulary.proofs.Outcome.{refusal-keeps, refused-as, accepted-does}

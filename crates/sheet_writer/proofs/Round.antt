@@ -1,21 +1,21 @@
 -- Reading what the writer wrote gives what was written. Assumes nothing.
-use Prim.Native.Nat.{ℕ, zero, suc, _+_, _*_, _^_, _≤_, _<_}
-use mathlib.Core.Path.{_≡_, refl, sym, ap, _∙_}
-use mathlib.Core.Bool.{Bool, true, false, _||_}
+use Prim.Native.Nat.{ℕ, zero, suc, _+_, _≤_}
+use mathlib.Core.Path.{_≡_, refl}
+use mathlib.Core.Bool.{Bool, true, false}
 use mathlib.Core.List.{List, [], _∷_, _++_, map, append-nil}
 use native.Mathlib.Omega.{arith}
-use lib.ListN.{length, length-map, take, drop}
+use lib.ListN.{length, take, drop}
 use lib.Seq.{drop-append-seam, take-append-seam}
 use borrow.Author.Tests.{eq-eqb}
 use Rattle.vocabulary.specs.Choice.{pick}
-use Rattle.vocabulary.specs.Refusal.{Row, _when_, lentLength, outOfRange, overFifteen, shortBuffer, refusalOf}
-use Rattle.vocabulary.specs.Outcome.{Outcome, accepting, refusing, answered, answeredAt}
+use Rattle.vocabulary.specs.Refusal.{_when_, lentLength, outOfRange, overFifteen, shortBuffer, refusalOf}
+use Rattle.vocabulary.specs.Outcome.{Outcome, accepting, answered, answeredAt}
 use Rattle.vocabulary.proofs.Outcome.{accepted-does}
-use Rattle.hd153108.specs.Hd153108.{Chip, short, outside}
-use Rattle.sheet.specs.declared.Line.{Line}
-use Rattle.sheet.specs.declared.Line.the-variants.{Has, Missing}
-use Rattle.sheet.specs.Sheet.{keys, keyAt, width, takes, lineText, Reading, good, led, onward, ended, readFrom, sheetOf}
-use Rattle.sheet.specs.Sheet.{coloursIn, values, chipLines, textFrom, textOf, pasted, overFifteenIn, writeRefusals, write}
+use Rattle.hd153108.specs.Hd153108.{Chip}
+use Rattle.sheet.specs.declared.Line.the-variants.{Has}
+use Rattle.sheet.specs.Sheet.{keyAt, lineText, good, readFrom, sheetOf}
+use Rattle.sheet.specs.Sheet.{coloursIn, values, chipLines, textFrom, textOf, pasted, overFifteenIn, writeRefusals}
+use Rattle.sheet.specs.Sheet.{write}
 use Rattle.sheet.proofs.Texts.{width-entry, takes-entry}
 use Rattle.sheet.proofs.Lines.{line-there}
 use Rattle.sheet.proofs.Good.{Lawful}

@@ -1,6 +1,6 @@
 -- The values that the writer lists, and their places. Assumes nothing.
 use Prim.Native.Nat.{ℕ, zero, suc, _+_, _-_, _*_, _≤_, _<_}
-use mathlib.Core.Path.{_≡_, refl, sym, ap, _∙_}
+use mathlib.Core.Path.{_≡_, refl, ap, _∙_}
 use mathlib.Core.Bool.{Bool, true, false, _||_}
 use mathlib.Core.List.{List, [], _∷_, _++_}
 use native.Mathlib.Omega.{arith}
@@ -81,7 +81,8 @@ module _ (a : Chip) (os : length (a .overlays) ≡ 12) (cs : length (a .colours)
   value-colour k g =
       let e : k ≡ 5 + (length (coloursIn (a .overlays)) + (k - 9)) = omega (arith, four) in
       ap (λ (j : ℕ). getD (firsts a ++ (coloursIn (a .overlays) ++ coloursIn (a .colours))) j 0) e
-      ∙ getD-append-add (firsts a) (coloursIn (a .overlays) ++ coloursIn (a .colours)) (length (coloursIn (a .overlays)) + (k - 9)) 0
+      ∙ getD-append-add (firsts a) (coloursIn (a .overlays) ++ coloursIn (a .colours))
+      (length (coloursIn (a .overlays)) + (k - 9)) 0
       ∙ getD-append-add (coloursIn (a .overlays)) (coloursIn (a .colours)) (k - 9) 0
 
 pub length-text : (a : Chip) → length (a .overlays) ≡ 12 → length (a .colours) ≡ 768 → length (textOf a) ≡ 2134

@@ -1,5 +1,4 @@
 -- What the writer's helpers are given: tables and state that pass its refusals.
-use Prim.Native.Nat.{ℕ}
 use mathlib.Core.Path.{_≡_}
 use mathlib.Core.Bool.{false}
 use lib.ListN.{length}

@@ -1,8 +1,8 @@
 // The writer of a sheet: chip A's state and tables as text.
 //
 // Document 01, "The sheet and its calls", decides; `write` in specs/Sheet.antt of crate sheet says what it answers and
-// leaves, and the call equals it. It always lists all: 265 lines, 2,134 bytes. The caller owns state, tables and buffer;
-// bytes past the sheet keep their values, and a refusal writes none. Not modelled: form 2.
+// leaves, and the call equals it. It always lists all: 265 lines, 2,134 bytes. The caller owns state, tables and
+// buffer; bytes past the sheet keep their values, and a refusal writes none. Not modelled: a sheet with missing lines.
 ghost use mathlib.Core.Path.{_≡_};
 ghost use mathlib.Core.Bool.{false};
 ghost use Prim.Native.Nat.{_+_, _*_, _≤_, _<_};

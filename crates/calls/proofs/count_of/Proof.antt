@@ -34,7 +34,10 @@ add-result-2 : tie.Need-add-result-2
 add-result-2 c = search needs
 
 returns : tie.Need-returns
-returns c = count-all (c .before .before .before .before .before .args .kept .now) (c .before .before .before .before .before .pre) (c .before .before .table-count .ensures .0) (c .table-count2 .ensures .0)
+returns c =
+    count-all (c .before .before .before .before .before .args .kept .now)
+    (c .before .before .before .before .before .pre) (c .before .before .table-count .ensures .0)
+    (c .table-count2 .ensures .0)
 
 pub count-of-spec : {M : Type 1} → statement M
 count-of-spec =

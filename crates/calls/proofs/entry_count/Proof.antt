@@ -1,4 +1,4 @@
-use Rattle.calls.specs.Calls.{entryCount}
+use Rattle.calls.specs.Kept.{entryCount}
 use Rattle.calls.proofs.Stored.{kept-missing, kept-has}
 use borrow.Author.Needs.{needs}
 use Rattle.calls.proofs.entry_count.Statement.{statement}

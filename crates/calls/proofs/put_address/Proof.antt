@@ -1,5 +1,3 @@
-use mathlib.Core.Path.{_≡_}
-use mathlib.Core.Bool.{true, false}
 use Rattle.calls.specs.Calls.{callBytes}
 use Rattle.calls.proofs.Stored.{nothing}
 use borrow.Author.Needs.{needs}

@@ -57,7 +57,8 @@ same-length c = search needs
 returns : tie.Need-returns
 returns c =
     let a = c .before .before .before .before .args in
-    rw (sym (colour-bytes (a .select) (a .v) (search needs) (c .before .before .low .ensures) (c .before .low2 .ensures) (c .low3 .ensures)))
+    rw (sym (colour-bytes (a .select) (a .v) (search needs) (c .before .before .low .ensures) (c .before .low2 .ensures)
+    (c .low3 .ensures)))
     (six-stored (a .out .now) (a .at) _ _ _ _ _ _ (search needs))
 
 pub put-colour-spec : {M : Type 1} → statement M

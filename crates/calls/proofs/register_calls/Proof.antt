@@ -35,7 +35,10 @@ same-length c = search needs
 
 returns : tie.Need-returns
 returns c =
-    register-wrote (c .before .before .before .before .before .before .before .before .before .before .before .before .before .before .args .kept .now) _ _ (search needs) (c .before .before .before .before .before .before .before .before .before .before .narrow .ensures) (c .before .before .before .before .before .before .before .before .narrow2 .ensures) (c .before .before .before .before .before .before .narrow3 .ensures)
+    let n = c .before .before .before .before .before .before .before .before .before .before in
+    register-wrote (n .before .before .before .before .args .kept .now) _ _ (search needs) (n .narrow .ensures)
+    (c .before .before .before .before .before .before .before .before .narrow2 .ensures)
+    (c .before .before .before .before .before .before .narrow3 .ensures)
     (c .before .before .before .before .narrow4 .ensures) (c .before .before .put-registers .ensures)
 
 pub register-calls-spec : {M : Type 1} → statement M

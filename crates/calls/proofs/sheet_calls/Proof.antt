@@ -7,13 +7,17 @@ read-requires : tie.Need-read-requires
 read-requires c κs = search needs
 
 returns : tie.Need-returns
-returns c = refused-bad (c .before .before .before .before .args .text .now) (c .before .before .before .before .args .out .now) _ _ (c .before .read .ensures) (c .if1 .taken)
+returns c =
+    refused-bad (c .before .before .before .before .args .text .now) (c .before .before .before .before .args .out .now)
+    _ _ (c .before .read .ensures) (c .if1 .taken)
 
 slice-aggregate-count-of : tie.Need-slice-aggregate-count-of
 slice-aggregate-count-of c = search needs
 
 count-of-requires : tie.Need-count-of-requires
-count-of-requires c κs = good-kept (c .before .before .before .before .before .before .args .text .now) _ (is-good _ _ _ (c .before .before .before .read .ensures) (c .before .before .if1 .left))
+count-of-requires c κs =
+    good-kept (c .before .before .before .before .before .before .args .text .now) _
+    (is-good _ _ _ (c .before .before .before .read .ensures) (c .before .before .if1 .left))
 
 mul-if2 : tie.Need-mul-if2
 mul-if2 c = search needs
@@ -22,7 +26,8 @@ returns-2 : tie.Need-returns-2
 returns-2 c =
     let a = c .before .before .before .before .before .before .before .before .args in
     let r = c .before .before .before .before .before .read in
-    refused-short (a .text .now) (a .out .now) (r .result .kept) (is-good _ _ _ (r .ensures) (c .before .before .before .before .if1 .left))
+    refused-short (a .text .now) (a .out .now) (r .result .kept)
+    (is-good _ _ _ (r .ensures) (c .before .before .before .before .if1 .left))
     (c .before .count-of .ensures .0) (c .if2 .taken)
 
 slice-aggregate-write-calls : tie.Need-slice-aggregate-write-calls
@@ -34,7 +39,8 @@ write-calls-requires c κs =
     let r = c .before .before .before .before .before .before .before .read in
     let g = is-good (a .text .now) _ _ (r .ensures) (c .before .before .before .before .before .before .if1 .left) in (
       good-kept (a .text .now) (r .result .kept) g,
-      calls-fit (a .text .now) (a .out .now) (r .result .kept) g (c .before .before .before .count-of .ensures .0) (c .before .before .if2 .left),
+      calls-fit (a .text .now) (a .out .now) (r .result .kept) g (c .before .before .before .count-of .ensures .0)
+          (c .before .before .if2 .left),
     )
 
 cast-t17 : tie.Need-cast-t17
@@ -45,10 +51,13 @@ same-length c = search needs
 
 returns-3 : tie.Need-returns-3
 returns-3 c =
-    let a = c .before .before .before .before .before .before .before .before .before .before .before .before .before .args in
+    let a =
+    c .before .before .before .before .before .before .before .before .before .before .before .before .before .args in
     let r = c .before .before .before .before .before .before .before .before .before .before .read in
-    done (a .text .now) (a .out .now) (r .result .kept) (is-good _ _ _ (r .ensures) (c .before .before .before .before .before .before .before .before .before .if1 .left))
-    (c .before .before .before .before .before .before .count-of .ensures .0) (c .before .before .before .before .before .if2 .left) (c .before .before .write-calls .ensures)
+    done (a .text .now) (a .out .now) (r .result .kept)
+    (is-good _ _ _ (r .ensures) (c .before .before .before .before .before .before .before .before .before .if1 .left))
+    (c .before .before .before .before .before .before .count-of .ensures .0)
+    (c .before .before .before .before .before .if2 .left) (c .before .before .write-calls .ensures)
 
 pub sheet-calls-spec : {M : Type 1} → statement M
 sheet-calls-spec =

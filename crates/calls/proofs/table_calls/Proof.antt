@@ -9,7 +9,8 @@ use Rattle.calls.proofs.table_calls.Statement.{statement}
 use Rattle.calls.proofs.table_calls.Tie as tie
 
 abbrev Inv-loop : tie.InvT-loop
-Inv-loop kept select out₀ entry₀ at₀ follows₀ out entry at follows = (entry ≤ length kept) × Going (left select kept 0 false) out₀ out at (left select kept entry follows)
+Inv-loop kept select out₀ entry₀ at₀ follows₀ out entry at follows =
+    (entry ≤ length kept) × Going (left select kept 0 false) out₀ out at (left select kept entry follows)
 
 abbrev μ-loop : tie.MeasureT-loop
 μ-loop kept select out₀ entry₀ at₀ follows₀ out entry at follows = length kept - entry
@@ -29,7 +30,9 @@ cast-put-entry c = search needs
 put-entry-requires : tie.Need-put-entry-requires Inv-loop μ-loop
 put-entry-requires c κs =
     let l = c .before .before .before .loop in
-    entry-fits (c .before .before .before .before .before .before .args .select) (c .before .before .before .before .before .before .args .kept .now) (l .entry) (l .follows) (l .inv .1) (search needs)
+    entry-fits (c .before .before .before .before .before .before .args .select)
+    (c .before .before .before .before .before .before .args .kept .now) (l .entry) (l .follows) (l .inv .1)
+    (search needs)
 
 add-entry : tie.Need-add-entry Inv-loop μ-loop
 add-entry c = search needs

@@ -1,11 +1,11 @@
 use native.Mathlib.Omega.{arith}
 use Prim.Native.Nat.{_+_, _-_, _*_, _≤_}
-use mathlib.Core.Path.{_≡_, refl}
+use mathlib.Core.Path.{_≡_}
 use mathlib.Core.Bool.{false}
 use mathlib.Core.List.{map}
 use lib.ListN.{length, drop}
 use Rattle.sheet_reader.specs.Reader.{lineFor}
-use Rattle.calls.specs.Calls.{tableCount}
+use Rattle.calls.specs.Kept.{tableCount}
 use Rattle.calls.proofs.Stored.{kept-there}
 use Rattle.calls.proofs.Count.{counts-none, counts-on}
 use borrow.Author.Needs.{needs}
@@ -46,13 +46,19 @@ loop-again c =
     let l = c .before .before .before .loop in (
       search needs,
       search needs,
-      rw (kept-there _) (omega (arith, counts-on (c .before .before .before .before .before .args .kept .now) (l .entry) (l .joined) (search needs))),
+      rw (kept-there _) (omega (
+        arith,
+        counts-on (c .before .before .before .before .before .args .kept .now) (l .entry)
+            (l .joined) (search needs),
+      )),
     )
 
 returns : tie.Need-returns Inv-loop μ-loop
 returns c =
-    let l = c .before .loop in
-    (omega (arith, counts-none (c .before .before .before .args .kept .now) (l .entry) (l .joined) (search needs)), search needs)
+    let l = c .before .loop in (
+      omega (arith, counts-none (c .before .before .before .args .kept .now) (l .entry) (l .joined) (search needs)),
+      search needs,
+    )
 
 pub table-count-spec : {M : Type 1} → statement M
 table-count-spec =

@@ -29,12 +29,16 @@ part-table-calls-end-2 c = search needs
 sub-table-calls-3 : tie.Need-sub-table-calls-3
 sub-table-calls-3 c =
     let a = c .before .before .before .before .before .before .before .before .args in
-    inside (a .out .now) _ _ _ (tables-split (a .kept .now)) (c .before .before .before .before .before .before .before .before .pre .1) _ (c .before .before .before .table-calls .ensures)
+    inside (a .out .now) _ _ _ (tables-split (a .kept .now))
+    (c .before .before .before .before .before .before .before .before .pre .1) _
+    (c .before .before .before .table-calls .ensures)
 
 part-table-calls-start-3 : tie.Need-part-table-calls-start-3
 part-table-calls-start-3 c =
     let a = c .before .before .before .before .before .before .before .before .args in
-    let h = inside (a .out .now) _ _ _ (tables-split (a .kept .now)) (c .before .before .before .before .before .before .before .before .pre .1) _ (c .before .before .before .table-calls .ensures) in
+    let h = inside (a .out .now) _ _ _ (tables-split (a .kept .now))
+    (c .before .before .before .before .before .before .before .before .pre .1) _
+    (c .before .before .before .table-calls .ensures) in
     search needs
 
 part-table-calls-end-3 : tie.Need-part-table-calls-end-3
@@ -42,8 +46,12 @@ part-table-calls-end-3 c = search needs
 
 table-calls-requires-2 : tie.Need-table-calls-requires-2
 table-calls-requires-2 c κs =
-    let a = c .before .before .before .before .before .before .before .before .before .args in
-    (search needs, rest-room (a .out .now) _ _ _ (tables-split (a .kept .now)) (c .before .before .before .before .before .before .before .before .before .pre .1) _ (c .before .before .before .before .table-calls .ensures))
+    let a = c .before .before .before .before .before .before .before .before .before .args in (
+      search needs,
+      rest-room (a .out .now) _ _ _ (tables-split (a .kept .now))
+          (c .before .before .before .before .before .before .before .before .before .pre .1) _
+          (c .before .before .before .before .table-calls .ensures),
+    )
 
 same-length : tie.Need-same-length
 same-length c = search needs
@@ -51,7 +59,9 @@ same-length c = search needs
 returns : tie.Need-returns
 returns c =
     let a = c .before .before .before .before .before .before .before .before .before .before .before .before .args in
-    behind (a .out .now) _ _ _ (tables-split (a .kept .now)) (c .before .before .before .before .before .before .before .before .before .before .before .before .pre .1) _ (c .before .before .before .before .before .before .before .table-calls .ensures) _
+    behind (a .out .now) _ _ _ (tables-split (a .kept .now))
+    (c .before .before .before .before .before .before .before .before .before .before .before .before .pre .1) _
+    (c .before .before .before .before .before .before .before .table-calls .ensures) _
     (c .before .before .table-calls2 .ensures .1)
 
 pub tables-calls-spec : {M : Type 1} → statement M

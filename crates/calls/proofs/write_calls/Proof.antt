@@ -6,17 +6,21 @@ use Rattle.calls.proofs.write_calls.Statement.{statement}
 use Rattle.calls.proofs.write_calls.Tie as tie
 
 register-calls-requires : tie.Need-register-calls-requires
-register-calls-requires c κs = (c .before .before .before .pre .0, registers-fit (c .before .before .before .args .kept .now) (c .before .before .before .args .out .now) (c .before .before .before .pre .0) (c .before .before .before .pre .1))
+register-calls-requires c κs =
+    let s = c .before .before .before in
+    (s .pre .0, registers-fit (s .args .kept .now) (s .args .out .now) (s .pre .0) (s .pre .1))
 
 sub-tables-calls : tie.Need-sub-tables-calls
 sub-tables-calls c =
     let a = c .before .before .before .before .before .before .args in
-    inside (a .out .now) _ _ _ (calls-split (map lineFor (a .kept .now))) (c .before .before .before .before .before .before .pre .1) _ (c .before .before .register-calls .ensures)
+    inside (a .out .now) _ _ _ (calls-split (map lineFor (a .kept .now)))
+    (c .before .before .before .before .before .before .pre .1) _ (c .before .before .register-calls .ensures)
 
 part-tables-calls-start : tie.Need-part-tables-calls-start
 part-tables-calls-start c =
     let a = c .before .before .before .before .before .before .args in
-    let h = inside (a .out .now) _ _ _ (calls-split (map lineFor (a .kept .now))) (c .before .before .before .before .before .before .pre .1) _ (c .before .before .register-calls .ensures) in
+    let h = inside (a .out .now) _ _ _ (calls-split (map lineFor (a .kept .now)))
+    (c .before .before .before .before .before .before .pre .1) _ (c .before .before .register-calls .ensures) in
     search needs
 
 part-tables-calls-end : tie.Need-part-tables-calls-end
@@ -26,7 +30,9 @@ tables-calls-requires : tie.Need-tables-calls-requires
 tables-calls-requires c κs =
     let a = c .before .before .before .before .before .before .before .args in (
       c .before .before .before .before .before .before .before .pre .0,
-      rest-room (a .out .now) _ _ _ (calls-split (map lineFor (a .kept .now))) (c .before .before .before .before .before .before .before .pre .1) _ (c .before .before .before .register-calls .ensures),
+      rest-room (a .out .now) _ _ _ (calls-split (map lineFor (a .kept .now)))
+          (c .before .before .before .before .before .before .before .pre .1) _
+          (c .before .before .before .register-calls .ensures),
     )
 
 same-length : tie.Need-same-length
@@ -35,7 +41,9 @@ same-length c = search needs
 returns : tie.Need-returns
 returns c =
     let a = c .before .before .before .before .before .before .before .before .before .before .args in
-    behind (a .out .now) _ _ _ (calls-split (map lineFor (a .kept .now))) (c .before .before .before .before .before .before .before .before .before .before .pre .1) _ (c .before .before .before .before .before .before .register-calls .ensures) _
+    behind (a .out .now) _ _ _ (calls-split (map lineFor (a .kept .now)))
+    (c .before .before .before .before .before .before .before .before .before .before .pre .1) _
+    (c .before .before .before .before .before .before .register-calls .ensures) _
     (c .before .before .tables-calls .ensures)
 
 pub write-calls-spec : {M : Type 1} → statement M

@@ -21,7 +21,15 @@ digit-requires-3 : tie.Need-digit-requires-3
 digit-requires-3 c κs = search needs
 
 returns : tie.Need-returns
-returns c = rw (c .before .before .before .before .digit .ensures, c .before .before .digit2 .ensures, c .digit3 .ensures, c .before .before .before .before .before .wide .ensures, c .before .before .before .wide2 .ensures, c .before .wide3 .ensures)
+returns c =
+    rw (
+      c .before .before .before .before .digit .ensures,
+      c .before .before .digit2 .ensures,
+      c .digit3 .ensures,
+      c .before .before .before .before .before .wide .ensures,
+      c .before .before .before .wide2 .ensures,
+      c .before .wide3 .ensures,
+    )
 
 pub call-line-spec : {M : Type 1} → statement M
 call-line-spec =

@@ -17,7 +17,9 @@ loop-holds : tie.Need-loop-holds Inv-loop μ-loop
 loop-holds c = (search needs, refl)
 
 returns : tie.Need-returns Inv-loop μ-loop
-returns c = sym (starts-short (c .before .before .before .args .word .now) (c .before .before .before .args .text .now) (c .before .before .loop .i) (search needs) (search needs)) ∙ c .before .before .loop .inv .1
+returns c =
+    sym (starts-short (c .before .before .before .args .word .now) (c .before .before .before .args .text .now)
+    (c .before .before .loop .i) (search needs) (search needs)) ∙ c .before .before .loop .inv .1
 
 shared-slice-read-if2 : tie.Need-shared-slice-read-if2 Inv-loop μ-loop
 shared-slice-read-if2 c = search needs
@@ -28,7 +30,9 @@ shared-slice-read-if2-2 c = search needs
 returns-2 : tie.Need-returns-2 Inv-loop μ-loop
 returns-2 c =
     let l = c .before .before .before .before .before .loop in
-    sym (starts-differ (c .before .before .before .before .before .before .args .word .now) (c .before .before .before .before .before .before .args .text .now) (l .i) (search needs) (search needs) (c .if2 .taken))
+    sym (starts-differ (c .before .before .before .before .before .before .args .word .now)
+    (c .before .before .before .before .before .before .args .text .now) (l .i) (search needs) (search needs)
+    (c .if2 .taken))
     ∙ l .inv .1
 
 add-i : tie.Need-add-i Inv-loop μ-loop
@@ -41,12 +45,16 @@ loop-again : tie.Need-loop-again Inv-loop μ-loop
 loop-again c =
     let l = c .before .before .before .before .before .loop in (
       search needs,
-      sym (starts-same (c .before .before .before .before .before .before .args .word .now) (c .before .before .before .before .before .before .args .text .now) (l .i) (search needs) (search needs) (c .if2 .left))
+      sym (starts-same (c .before .before .before .before .before .before .args .word .now)
+          (c .before .before .before .before .before .before .args .text .now) (l .i) (search needs) (search needs)
+          (c .if2 .left))
           ∙ l .inv .1,
     )
 
 returns-3 : tie.Need-returns-3 Inv-loop μ-loop
-returns-3 c = sym (starts-all (c .before .before .args .word .now) (c .before .before .args .text .now) (c .before .loop .i) (search needs)) ∙ c .before .loop .inv .1
+returns-3 c =
+    sym (starts-all (c .before .before .args .word .now) (c .before .before .args .text .now) (c .before .loop .i)
+    (search needs)) ∙ c .before .loop .inv .1
 
 pub begins-spec : {M : Type 1} → statement M
 begins-spec =

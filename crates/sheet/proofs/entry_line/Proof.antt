@@ -21,7 +21,8 @@ digit-requires-4 c κs = search needs
 returns : tie.Need-returns
 returns c = (
   search needs,
-  text-o (c .before .before .before .before .before .args .v) (c .before .before .before .digit2 .ensures) (c .before .before .digit3 .ensures) (c .before .before .before .before .digit .ensures) (c .digit4 .ensures)
+  text-o (c .before .before .before .before .before .args .v) (c .before .before .before .digit2 .ensures)
+      (c .before .before .digit3 .ensures) (c .before .before .before .before .digit .ensures) (c .digit4 .ensures)
       (search needs) (search needs),
 )
 
@@ -34,7 +35,9 @@ digit-requires-6 c κs = search needs
 returns-2 : tie.Need-returns-2
 returns-2 c = (
   search needs,
-  text-c (c .before .before .before .before .before .before .args .v) (c .before .before .before .before .digit2 .ensures) (c .before .before .before .digit3 .ensures) (c .before .before .before .before .before .digit .ensures) (c .before .digit5 .ensures) (c .digit6 .ensures)
+  text-c (c .before .before .before .before .before .before .args .v)
+      (c .before .before .before .before .digit2 .ensures) (c .before .before .before .digit3 .ensures)
+      (c .before .before .before .before .before .digit .ensures) (c .before .digit5 .ensures) (c .digit6 .ensures)
       (search needs),
 )
 

@@ -11,19 +11,36 @@ digit-requires-2 : tie.Need-digit-requires-2
 digit-requires-2 c κs = search needs
 
 returns : tie.Need-returns
-returns c = (search needs, text-chip (c .before .before .before .args .k) (c .before .before .before .args .v) (search needs))
+returns c =
+    (search needs, text-chip (c .before .before .before .args .k) (c .before .before .before .args .v) (search needs))
 
 returns-2 : tie.Need-returns-2
-returns-2 c = (search needs, text-readmask (c .before .before .before .args .v) (c .before .before .digit .ensures) (c .before .digit2 .ensures) (search needs))
+returns-2 c = (
+  search needs,
+  text-readmask (c .before .before .before .args .v) (c .before .before .digit .ensures)
+      (c .before .digit2 .ensures) (search needs),
+)
 
 returns-3 : tie.Need-returns-3
-returns-3 c = (search needs, text-blinkmask (c .before .before .before .args .v) (c .before .before .digit .ensures) (c .before .digit2 .ensures) (search needs))
+returns-3 c = (
+  search needs,
+  text-blinkmask (c .before .before .before .args .v) (c .before .before .digit .ensures)
+      (c .before .digit2 .ensures) (search needs),
+)
 
 returns-4 : tie.Need-returns-4
-returns-4 c = (search needs, text-overlay (c .before .before .before .args .v) (c .before .before .digit .ensures) (c .before .digit2 .ensures) (search needs))
+returns-4 c = (
+  search needs,
+  text-overlay (c .before .before .before .args .v) (c .before .before .digit .ensures)
+      (c .before .digit2 .ensures) (search needs),
+)
 
 returns-5 : tie.Need-returns-5
-returns-5 c = (search needs, text-timing (c .before .before .before .args .v) (c .before .before .digit .ensures) (c .before .digit2 .ensures) (omega arith))
+returns-5 c = (
+  search needs,
+  text-timing (c .before .before .before .args .v) (c .before .before .digit .ensures)
+      (c .before .digit2 .ensures) (omega arith),
+)
 
 pub first-line-spec : {M : Type 1} → statement M
 first-line-spec =

@@ -32,7 +32,10 @@ returns : tie.Need-returns
 returns c =
     let a = c .before .before .before .before .before .before .before .before .before .args in
     line-other (keyAt (a .k)) (a .t .now)
-    (spelt-is _ _ (c .before .before .before .before .before .spelt-at .ensures) (c .before .before .before .before .before .before .digit-count .ensures .0) (c .before .before .before .before .before .before .before .front-len .ensures .0)) (c .before .before .before .before .written .ensures .1)
+    (spelt-is _ _ (c .before .before .before .before .before .spelt-at .ensures)
+    (c .before .before .before .before .before .before .digit-count .ensures .0)
+    (c .before .before .before .before .before .before .before .front-len .ensures .0))
+    (c .before .before .before .before .written .ensures .1)
     (sym (c .before .begins .ensures) ∙ not-true _ (c .if1 .taken))
 
 takes-requires : tie.Need-takes-requires
@@ -42,15 +45,23 @@ returns-2 : tie.Need-returns-2
 returns-2 c =
     let a = c .before .before .before .before .before .before .before .before .before .before .before .args in
     line-has (keyAt (a .k)) (a .t .now)
-    (spelt-is _ _ (c .before .before .before .before .before .before .before .spelt-at .ensures) (c .before .before .before .before .before .before .before .before .digit-count .ensures .0) (c .before .before .before .before .before .before .before .before .before .front-len .ensures .0)) (c .before .before .before .before .before .before .written .ensures .1)
-    (sym (c .before .before .before .begins .ensures) ∙ not-false _ (c .before .before .if1 .left)) (sym (c .before .takes .ensures) ∙ c .if2 .taken)
+    (spelt-is _ _ (c .before .before .before .before .before .before .before .spelt-at .ensures)
+    (c .before .before .before .before .before .before .before .before .digit-count .ensures .0)
+    (c .before .before .before .before .before .before .before .before .before .front-len .ensures .0))
+    (c .before .before .before .before .before .before .written .ensures .1)
+    (sym (c .before .before .before .begins .ensures) ∙ not-false _ (c .before .before .if1 .left))
+    (sym (c .before .takes .ensures) ∙ c .if2 .taken)
 
 returns-3 : tie.Need-returns-3
 returns-3 c =
     let a = c .before .before .before .before .before .before .before .before .before .before .before .args in
     line-not-taken (keyAt (a .k)) (a .t .now)
-    (spelt-is _ _ (c .before .before .before .before .before .before .before .spelt-at .ensures) (c .before .before .before .before .before .before .before .before .digit-count .ensures .0) (c .before .before .before .before .before .before .before .before .before .front-len .ensures .0)) (c .before .before .before .before .before .before .written .ensures .1)
-    (sym (c .before .before .before .begins .ensures) ∙ not-false _ (c .before .before .if1 .left)) (sym (c .before .takes .ensures) ∙ c .if2 .left)
+    (spelt-is _ _ (c .before .before .before .before .before .before .before .spelt-at .ensures)
+    (c .before .before .before .before .before .before .before .before .digit-count .ensures .0)
+    (c .before .before .before .before .before .before .before .before .before .front-len .ensures .0))
+    (c .before .before .before .before .before .before .written .ensures .1)
+    (sym (c .before .before .before .begins .ensures) ∙ not-false _ (c .before .before .if1 .left))
+    (sym (c .before .takes .ensures) ∙ c .if2 .left)
 
 pub line-of-spec : {M : Type 1} → statement M
 line-of-spec =

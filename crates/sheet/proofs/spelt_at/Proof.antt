@@ -13,10 +13,15 @@ nibble-requires : tie.Need-nibble-requires
 nibble-requires c κs = search needs
 
 returns : tie.Need-returns
-returns c = spelt-none (c .before .before .before .before .args .t .now) (c .before .before .before .before .args .i) (c .if1 .taken)
+returns c =
+    spelt-none (c .before .before .before .before .args .t .now) (c .before .before .before .before .args .i)
+    (c .if1 .taken)
 
 returns-2 : tie.Need-returns-2
-returns-2 c = spelt-one (c .before .before .before .before .before .args .t .now) (c .before .before .before .before .before .args .i) (c .before .before .nibble .ensures .0 ∙ ap hexValue (c .before .before .before .byte .ensures)) (c .if2 .taken)
+returns-2 c =
+    spelt-one (c .before .before .before .before .before .args .t .now)
+    (c .before .before .before .before .before .args .i)
+    (c .before .before .nibble .ensures .0 ∙ ap hexValue (c .before .before .before .byte .ensures)) (c .if2 .taken)
 
 add-byte : tie.Need-add-byte
 add-byte c = search needs
@@ -35,7 +40,10 @@ add-result c = search needs
 
 returns-3 : tie.Need-returns-3
 returns-3 c =
-    spelt-two (c .before .before .before .before .before .before .before .before .args .t .now) (c .before .before .before .before .before .before .before .before .args .i) (c .before .before .before .before .before .nibble .ensures .0 ∙ ap hexValue (c .before .before .before .before .before .before .byte .ensures))
+    spelt-two (c .before .before .before .before .before .before .before .before .args .t .now)
+    (c .before .before .before .before .before .before .before .before .args .i)
+    (c .before .before .before .before .before .nibble .ensures .0 ∙ ap hexValue
+    (c .before .before .before .before .before .before .byte .ensures))
     (c .before .nibble2 .ensures .0 ∙ ap hexValue (c .before .before .byte2 .ensures)) (c .if3 .taken)
 
 add-byte-2 : tie.Need-add-byte-2
@@ -61,8 +69,12 @@ add-result-3 c = search needs
 
 returns-4 : tie.Need-returns-4
 returns-4 c =
-    spelt-three (c .before .before .before .before .before .before .before .before .before .before .args .t .now) (c .before .before .before .before .before .before .before .before .before .before .args .i) (c .before .before .before .before .before .before .before .nibble .ensures .0 ∙ ap hexValue (c .before .before .before .before .before .before .before .before .byte .ensures))
-    (c .before .before .before .nibble2 .ensures .0 ∙ ap hexValue (c .before .before .before .before .byte2 .ensures)) (omega arith)
+    spelt-three (c .before .before .before .before .before .before .before .before .before .before .args .t .now)
+    (c .before .before .before .before .before .before .before .before .before .before .args .i)
+    (c .before .before .before .before .before .before .before .nibble .ensures .0 ∙ ap hexValue
+    (c .before .before .before .before .before .before .before .before .byte .ensures))
+    (c .before .before .before .nibble2 .ensures .0 ∙ ap hexValue (c .before .before .before .before .byte2 .ensures))
+    (omega arith)
     (c .nibble3 .ensures .0 ∙ ap hexValue (c .before .byte3 .ensures))
 
 pub spelt-at-spec : {M : Type 1} → statement M

@@ -19,13 +19,15 @@ key-of-requires c κs = search needs
 returns : tie.Need-returns
 returns c =
     let a = c .before .before .before .before .args in
-    low (a .text .now) (a .at) (a .due) (rest-of (a .text .now) (a .at)) (c .before .key-of .ensures) (search needs) (search needs)
+    low (a .text .now) (a .at) (a .due) (rest-of (a .text .now) (a .at)) (c .before .key-of .ensures) (search needs)
+    (search needs)
     (c .if1 .taken)
 
 returns-2 : tie.Need-returns-2
 returns-2 c =
     let a = c .before .before .before .before .before .args in
-    high (a .text .now) (a .at) (a .due) (rest-of (a .text .now) (a .at)) (c .before .before .key-of .ensures) (search needs) (search needs)
+    high (a .text .now) (a .at) (a .due) (rest-of (a .text .now) (a .at)) (c .before .before .key-of .ensures)
+    (search needs) (search needs)
     (c .if2 .taken)
 
 sub-line-of : tie.Need-sub-line-of
@@ -49,7 +51,8 @@ enum-told c = search needs
 returns-3 : tie.Need-returns-3
 returns-3 c =
     let a = c .before .before .before .before .before .before .before .before .before .args in
-    wrong (a .text .now) (a .at) (a .due) (rest-of (a .text .now) (a .at)) (c .before .before .before .before .before .before .key-of .ensures) (search needs) (search needs)
+    wrong (a .text .now) (a .at) (a .due) (rest-of (a .text .now) (a .at))
+    (c .before .before .before .before .before .before .key-of .ensures) (search needs) (search needs)
     (sym (c .before .before .line-of .ensures) ∙ c .enum-told .given .1)
 
 line-len-requires : tie.Need-line-len-requires
@@ -61,8 +64,12 @@ add-t15 c = search needs
 returns-4 : tie.Need-returns-4
 returns-4 c =
     let a = c .before .before .before .before .before .before .before .before .before .before .before .args in
-    found (a .text .now) (a .at) (a .due) (rest-of (a .text .now) (a .at)) (c .before .before .before .before .before .before .before .before .key-of .ensures) (search needs) (search needs)
-    _ _ (c .before .before .before .before .before .before .before .if1 .left) (c .before .before .before .before .before .before .if2 .left) (sym (c .before .before .before .before .line-of .ensures) ∙ c .before .before .v .given .1) (c .line-len .ensures .0)
+    found (a .text .now) (a .at) (a .due) (rest-of (a .text .now) (a .at))
+    (c .before .before .before .before .before .before .before .before .key-of .ensures) (search needs) (search needs)
+    _ _ (c .before .before .before .before .before .before .before .if1 .left)
+    (c .before .before .before .before .before .before .if2 .left)
+    (sym (c .before .before .before .before .line-of .ensures) ∙ c .before .before .v .given .1)
+    (c .line-len .ensures .0)
 
 pub line-at-spec : {M : Type 1} → statement M
 line-at-spec =

@@ -81,12 +81,14 @@ loop-again c =
 returns-2 : tie.Need-returns-2 Inv-loop μ-loop
 returns-2 c =
     let l = c .before .before .loop in
-    ends-good (c .before .before .before .before .args .text .now) (l .kept) (l .at) (l .due) (l .n) _ (search needs) (l .inv .5) (c .if1 .taken) (l .inv .4)
+    ends-good (c .before .before .before .before .args .text .now) (l .kept) (l .at) (l .due) (l .n) _ (search needs)
+    (l .inv .5) (c .if1 .taken) (l .inv .4)
 
 returns-3 : tie.Need-returns-3 Inv-loop μ-loop
 returns-3 c =
     let l = c .before .before .loop in
-    ends-bad (c .before .before .before .before .args .text .now) (l .kept) (l .at) (l .due) (l .n) _ (search needs) (l .inv .5) (c .if1 .left) (l .inv .2)
+    ends-bad (c .before .before .before .before .args .text .now) (l .kept) (l .at) (l .due) (l .n) _ (search needs)
+    (l .inv .5) (c .if1 .left) (l .inv .2)
 
 pub read-spec : {M : Type 1} → statement M
 read-spec =

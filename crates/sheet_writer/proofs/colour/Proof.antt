@@ -41,7 +41,13 @@ add-result c = search needs
 mul-result-2 : tie.Need-mul-result-2
 mul-result-2 c =
     let a = c .before .before .before .before .before .before .before .args in
-    omega (arith, low-at (a .table .now) (3 * a .entry) (c .before .before .before .before .before .before .before .pre .1), low-at (a .table .now) (3 * a .entry + 1) (c .before .before .before .before .before .before .before .pre .1))
+    omega (
+      arith,
+      low-at (a .table .now) (3 * a .entry)
+          (c .before .before .before .before .before .before .before .pre .1),
+      low-at (a .table .now) (3 * a .entry + 1)
+          (c .before .before .before .before .before .before .before .pre .1),
+    )
 
 add-result-2 : tie.Need-add-result-2
 add-result-2 c =
@@ -53,7 +59,11 @@ add-result-2 c =
 returns : tie.Need-returns
 returns c =
     let a = c .before .before .before .before .before .before .before .args in
-    omega (arith, colour-at (a .table .now) (a .entry) (c .before .before .before .before .before .before .before .pre .0))
+    omega (
+      arith,
+      colour-at (a .table .now) (a .entry)
+          (c .before .before .before .before .before .before .before .pre .0),
+    )
 
 pub colour-spec : {M : Type 1} → statement M
 colour-spec =

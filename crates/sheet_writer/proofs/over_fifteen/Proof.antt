@@ -20,7 +20,9 @@ shared-slice-read-if1 : tie.Need-shared-slice-read-if1 Inv-loop μ-loop
 shared-slice-read-if1 c = search needs
 
 returns : tie.Need-returns Inv-loop μ-loop
-returns c = sym (over-here (c .before .before .before .before .args .table .now) (c .before .before .before .loop .i) (search needs) (c .if1 .taken)) ∙ c .before .before .before .loop .inv .1
+returns c =
+    sym (over-here (c .before .before .before .before .args .table .now) (c .before .before .before .loop .i)
+    (search needs) (c .if1 .taken)) ∙ c .before .before .before .loop .inv .1
 
 add-i : tie.Need-add-i Inv-loop μ-loop
 add-i c = search needs
@@ -29,10 +31,15 @@ loop-less : tie.Need-loop-less Inv-loop μ-loop
 loop-less c = search needs
 
 loop-again : tie.Need-loop-again Inv-loop μ-loop
-loop-again c = (search needs, sym (over-on (c .before .before .before .before .args .table .now) (c .before .before .before .loop .i) (search needs) (c .if1 .left)) ∙ c .before .before .before .loop .inv .1)
+loop-again c = (
+  search needs,
+  sym (over-on (c .before .before .before .before .args .table .now)
+      (c .before .before .before .loop .i) (search needs) (c .if1 .left)) ∙ c .before .before .before .loop .inv .1,
+)
 
 returns-2 : tie.Need-returns-2 Inv-loop μ-loop
-returns-2 c = sym (none-over (c .before .before .args .table .now) (c .before .loop .i) (search needs)) ∙ c .before .loop .inv .1
+returns-2 c =
+    sym (none-over (c .before .before .args .table .now) (c .before .loop .i) (search needs)) ∙ c .before .loop .inv .1
 
 pub over-fifteen-spec : {M : Type 1} → statement M
 over-fifteen-spec =

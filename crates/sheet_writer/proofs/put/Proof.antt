@@ -1,6 +1,6 @@
-use Prim.Native.Nat.{_+_, _-_, _≤_}
+use Prim.Native.Nat.{_-_, _≤_}
 use native.Mathlib.Numerals.{add-one}
-use mathlib.Core.Path.{_≡_, refl, sym, ap, _∙_}
+use mathlib.Core.Path.{_≡_, refl, _∙_}
 use lib.ListN.{length, length-set}
 use lib.Seq.{paste, paste-zero, paste-suc}
 use Rattle.sheet.proofs.Paste.{paste-all}
@@ -49,8 +49,11 @@ same-length c = search needs
 
 returns : tie.Need-returns Inv-loop μ-loop
 returns c =
-    let l = c .before .loop in
-    (search needs, l .inv .2 ∙ paste-all (c .before .before .args .out .now) (c .before .before .args .at) (c .before .before .args .word .now) (l .i) (search needs))
+    let l = c .before .loop in (
+      search needs,
+      l .inv .2 ∙ paste-all (c .before .before .args .out .now) (c .before .before .args .at)
+          (c .before .before .args .word .now) (l .i) (search needs),
+    )
 
 pub put-spec : {M : Type 1} → statement M
 put-spec =

@@ -20,7 +20,8 @@ same-length : tie.Need-same-length
 same-length c = search needs
 
 returns : tie.Need-returns
-returns c = rw (sym (c .before .before .before .before .before .before .written .ensures .1)) (c .before .before .put .ensures)
+returns c =
+    rw (sym (c .before .before .before .before .before .before .written .ensures .1)) (c .before .before .put .ensures)
 
 pub put-line-spec : {M : Type 1} → statement M
 put-line-spec =

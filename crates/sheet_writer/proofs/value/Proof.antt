@@ -25,13 +25,15 @@ cast-colour : tie.Need-cast-colour
 cast-colour c = search needs
 
 colour-requires : tie.Need-colour-requires
-colour-requires c κs = let w = c .before .before .before .before .before .pre .1 in (omega (arith, w .overlays), w .low-overlays)
+colour-requires c κs =
+    let w = c .before .before .before .before .before .pre .1 in (omega (arith, w .overlays), w .low-overlays)
 
 cast-colour-2 : tie.Need-cast-colour-2
 cast-colour-2 c = search needs
 
 colour-requires-2 : tie.Need-colour-requires-2
-colour-requires-2 c κs = let w = c .before .before .before .before .before .pre .1 in (omega (arith, w .colours), w .low-colours)
+colour-requires-2 c κs =
+    let w = c .before .before .before .before .before .pre .1 in (omega (arith, w .colours), w .low-colours)
 
 returns : tie.Need-returns
 unfolding values
@@ -39,19 +41,23 @@ returns c = let e : c .before .before .before .before .args .k ≡ 0 = search ne
 
 returns-2 : tie.Need-returns-2
 unfolding values
-returns-2 c = let e : c .before .before .before .before .before .args .k ≡ 1 = search needs in rw e (c .wide .ensures .0)
+returns-2 c =
+    let e : c .before .before .before .before .before .args .k ≡ 1 = search needs in rw e (c .wide .ensures .0)
 
 returns-3 : tie.Need-returns-3
 unfolding values
-returns-3 c = let e : c .before .before .before .before .before .args .k ≡ 2 = search needs in rw e (c .wide2 .ensures .0)
+returns-3 c =
+    let e : c .before .before .before .before .before .args .k ≡ 2 = search needs in rw e (c .wide2 .ensures .0)
 
 returns-4 : tie.Need-returns-4
 unfolding values
-returns-4 c = let e : c .before .before .before .before .before .args .k ≡ 3 = search needs in rw e (c .wide3 .ensures .0)
+returns-4 c =
+    let e : c .before .before .before .before .before .args .k ≡ 3 = search needs in rw e (c .wide3 .ensures .0)
 
 returns-5 : tie.Need-returns-5
 unfolding values
-returns-5 c = let e : c .before .before .before .before .before .args .k ≡ 4 = search needs in rw e (c .wide4 .ensures .0)
+returns-5 c =
+    let e : c .before .before .before .before .before .args .k ≡ 4 = search needs in rw e (c .wide4 .ensures .0)
 
 returns-6 : tie.Need-returns-6
 returns-6 c =

@@ -10,7 +10,9 @@ use Rattle.sheet_writer.proofs.write_lines.Statement.{statement}
 use Rattle.sheet_writer.proofs.write_lines.Tie as tie
 
 abbrev Inv-loop : tie.InvT-loop
-Inv-loop s colours overlays out₀ k₀ at₀ out k at = (k ≤ keys) × Going (left (values (chip s colours overlays)) 0) out₀ out at (left (values (chip s colours overlays)) k)
+Inv-loop s colours overlays out₀ k₀ at₀ out k at =
+    (k ≤ keys) × Going (left (values (chip s colours overlays)) 0) out₀ out at
+    (left (values (chip s colours overlays)) k)
 
 abbrev μ-loop : tie.MeasureT-loop
 μ-loop s colours overlays out₀ k₀ at₀ out k at = keys - k
@@ -30,7 +32,8 @@ put-line-requires c κs =
     let g = c .before .before .before .before .before .before .before .args in
     let w = c .before .before .before .before .before .before .before .pre .0 in
     let long = length-values (chip (g .s) (g .colours .now) (g .overlays .now)) (w .overlays) (w .colours) in
-    line-fits (values (chip (g .s) (g .colours .now) (g .overlays .now))) _ _ (c .before .value .ensures) (omega arith) (c .before .before .before .loop .inv .1)
+    line-fits (values (chip (g .s) (g .colours .now) (g .overlays .now))) _ _ (c .before .value .ensures) (omega arith)
+    (c .before .before .before .loop .inv .1)
 
 add-k : tie.Need-add-k Inv-loop μ-loop
 add-k c = search needs
@@ -46,7 +49,8 @@ loop-again c =
     let long = length-values (chip (g .s) (g .colours .now) (g .overlays .now)) (w .overlays) (w .colours) in (
       search needs,
       goes-on _ (g .out .now) (l .out) (l .at) _ (l .inv .1) _ _
-          (one-more (values (chip (g .s) (g .colours .now) (g .overlays .now))) (l .k) _ (c .before .before .before .before .value .ensures) (omega arith))
+          (one-more (values (chip (g .s) (g .colours .now) (g .overlays .now))) (l .k) _
+          (c .before .before .before .before .value .ensures) (omega arith))
           (c .before .before .put-line .ensures),
     )
 
