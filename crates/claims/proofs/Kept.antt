@@ -17,6 +17,7 @@ use Rattle.load.specs.Load.{InRange}
 use Rattle.load.proofs.Writes.{write-in-range}
 use Rattle.ms622424.proofs.Access.{lengths-right, ranges-right}
 use Rattle.ms622424_unseen.proofs.Kept.{call-sound}
+use Rattle.rgb640_laws.proofs.Good.{call-keeps-good}
 use Rattle.claims.specs.Kept.{NeverLockedOut}
 
 -- ---- chip A
@@ -68,9 +69,11 @@ pub never-locked-out : NeverLockedOut
 never-locked-out = record {
   a-clear = λ c g. (holds-passes _ (g .tables), holds-passes _ (g .state));
   b-clear = λ c h. (lengths-right c h, ranges-right c h);
+  c-clear = λ c g. (holds-passes _ (g .0, tt), holds-passes _ (g .1));
   a-write = write-keeps;
   a-read = read-keeps;
   a-tick = tick-keeps;
   a-reset = reset-in-range;
   b-call = call-sound;
+  c-call = call-keeps-good;
 }

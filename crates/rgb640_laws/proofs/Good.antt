@@ -98,6 +98,6 @@ Bytes resets = Unit
 
 pub call-keeps-good : (k : Call) (c : Chip) → Bytes k → Good c → Good (called k c .left)
 unfolding access write read reset
-call-keeps-good (writes port b) c h g = left-holds Good _ 0 c _ g (written-good c g b h _)
-call-keeps-good (reads port) c h g = left-holds Good _ 0 c _ g (read-out-good c g _)
-call-keeps-good resets c h g = left-holds Good _ 0 c _ g (g .0, omega arith)
+call-keeps-good (writes port b) c h g = left-holds Good _ 0 c _ g (λ e. written-good c g b h _)
+call-keeps-good (reads port) c h g = left-holds Good _ 0 c _ g (λ e. read-out-good c g _)
+call-keeps-good resets c h g = left-holds Good _ 0 c _ g (λ e. (g .0, omega arith))

@@ -25,7 +25,7 @@ module _ (c : Chip) where
 
   pub low-keeps : (b : ℕ) → Indexed (write 4 b c .left)
   unfolding access write portOf written
-  low-keeps b = left-holds Indexed _ 0 c _ refl refl
+  low-keeps b = left-holds Indexed _ 0 c _ refl (λ e. refl)
 
   -- one of port 5 keeps the latches, register 0x000E and the table
   abbrev Latched : Chip → Type 0
@@ -43,7 +43,7 @@ module _ (c : Chip) where
 
   pub high-keeps-latches : (b : ℕ) → Latched (write 5 b c .left)
   unfolding access write portOf written
-  high-keeps-latches b = left-holds Latched _ 0 c _ (refl, refl, refl, refl) (prepared-latched _ _)
+  high-keeps-latches b = left-holds Latched _ 0 c _ (refl, refl, refl, refl) (λ e. prepared-latched _ _)
 
   -- a read changes no number of the table
   data-read-keeps : (space : Space) → dataRead space c .left .table ≡ c .table
@@ -62,7 +62,7 @@ module _ (c : Chip) where
 
   pub read-keeps-table : (port : ℕ) → read port c .left .table ≡ c .table
   unfolding access read
-  read-keeps-table port = left-holds (λ (d : Chip). d .table ≡ c .table) _ 0 c _ refl (read-out-keeps _)
+  read-keeps-table port = left-holds (λ (d : Chip). d .table ≡ c .table) _ 0 c _ refl (λ e. read-out-keeps _)
 
 -- a write changes no number outside the index's entry
 module _ (c : Chip) (i : ℕ) (f : i ≡ 3 * offset (c .state .index) → ⊥) (g : i ≡ 3 * offset (c .state .index) + 1 → ⊥)
@@ -90,7 +90,7 @@ module _ (c : Chip) (i : ℕ) (f : i ≡ 3 * offset (c .state .index) → ⊥) (
   pub write-keeps-others : (port b : ℕ) → getD (write port b c .left .table) i 0 ≡ getD (c .table) i 0
   unfolding access write
   write-keeps-others port b =
-      left-holds (λ (d : Chip). getD (d .table) i 0 ≡ getD (c .table) i 0) _ 0 c _ refl (written-keeps _ b)
+      left-holds (λ (d : Chip). getD (d .table) i 0 ≡ getD (c .table) i 0) _ 0 c _ refl (λ e. written-keeps _ b)
 
 module _ (c : Chip) (good : Good c) where
   -- register 0x000E is written and read, and its access moves neither index nor order
