@@ -1,0 +1,129 @@
+-- A line of a port log, without its LF: the forms that it may have, and what each says. A form is a pattern: a byte
+-- string in which '#' stands for one hex digit, lower case, and any other byte for itself.
+use Prim.Native.Nat.{ℕ}
+use mathlib.Core.Bool.{Bool, true, false, _&&_, _||_}
+use mathlib.Core.List.{List, [], _∷_}
+use lib.Dec.{eqb, ltb, leb}
+use Rattle.vocabulary.specs.Choice.{pick}
+use Rattle.sheet.specs.Sheet.{number}
+use Rattle.log.specs.declared.Line.{Line}
+use Rattle.log.specs.declared.Line.the-variants.{ChooseA, ChooseB, ChooseC, Write, Read, Reset, Expand}
+use Rattle.log.specs.declared.Line.the-variants.{Tick, PixelA, Sheet, PixelB, Blank, Sync, Bad}
+
+-- ---- Patterns
+
+-- '0' to '9', 'a' to 'f'
+unfoldable pub isDigit : ℕ → Bool
+isDigit b = (leb 48 b && leb b 57) || (leb 97 b && leb b 102)
+
+-- whether a byte is one that a pattern's byte stands for; '#' is 35
+unfoldable pub stands : ℕ → ℕ → Bool
+stands p b = pick (eqb p 35) (isDigit b) (eqb p b)
+
+-- whether a line has a pattern: as many bytes, each in its place
+unfoldable pub fits : List ℕ → List ℕ → Bool
+fits [] [] = true
+fits [] (b ∷ t) = false
+fits (p ∷ ps) [] = false
+fits (p ∷ ps) (b ∷ t) = stands p b && fits ps t
+
+-- ---- The forms
+
+-- a pattern, and what a line that has it says
+pub record Form : Type 0 where
+  pub pattern : List ℕ
+  pub says : List ℕ → Line
+
+abbrev pub form : List ℕ → (List ℕ → Line) → Form
+form pattern says = record { pattern = pattern; says = says }
+
+-- the patterns, byte by byte
+-- "w#=##", "r#", "reset", "expand=#####"
+abbrev pub writing : List ℕ
+writing = 119 ∷ 35 ∷ 61 ∷ 35 ∷ 35 ∷ []
+
+abbrev pub reading : List ℕ
+reading = 114 ∷ 35 ∷ []
+
+abbrev pub resetting : List ℕ
+resetting = 114 ∷ 101 ∷ 115 ∷ 101 ∷ 116 ∷ []
+
+abbrev pub expanding : List ℕ
+expanding = 101 ∷ 120 ∷ 112 ∷ 97 ∷ 110 ∷ 100 ∷ 61 ∷ 35 ∷ 35 ∷ 35 ∷ 35 ∷ 35 ∷ []
+
+-- "chip=153108", "chip=622424", "chip=640"
+abbrev pub choosingA : List ℕ
+choosingA = 99 ∷ 104 ∷ 105 ∷ 112 ∷ 61 ∷ 49 ∷ 53 ∷ 51 ∷ 49 ∷ 48 ∷ 56 ∷ []
+
+abbrev pub choosingB : List ℕ
+choosingB = 99 ∷ 104 ∷ 105 ∷ 112 ∷ 61 ∷ 54 ∷ 50 ∷ 50 ∷ 52 ∷ 50 ∷ 52 ∷ []
+
+abbrev pub choosingC : List ℕ
+choosingC = 99 ∷ 104 ∷ 105 ∷ 112 ∷ 61 ∷ 54 ∷ 52 ∷ 48 ∷ []
+
+-- "tick", "pixel=####", "sheet"
+abbrev pub ticking : List ℕ
+ticking = 116 ∷ 105 ∷ 99 ∷ 107 ∷ []
+
+abbrev pub showingA : List ℕ
+showingA = 112 ∷ 105 ∷ 120 ∷ 101 ∷ 108 ∷ 61 ∷ 35 ∷ 35 ∷ 35 ∷ 35 ∷ []
+
+abbrev pub listing : List ℕ
+listing = 115 ∷ 104 ∷ 101 ∷ 101 ∷ 116 ∷ []
+
+-- "pixel=#########", "blank=########", "sync=#"
+abbrev pub showingB : List ℕ
+showingB = 112 ∷ 105 ∷ 120 ∷ 101 ∷ 108 ∷ 61 ∷ 35 ∷ 35 ∷ 35 ∷ 35 ∷ 35 ∷ 35 ∷ 35 ∷ 35 ∷ 35 ∷ []
+
+abbrev pub blanking : List ℕ
+blanking = 98 ∷ 108 ∷ 97 ∷ 110 ∷ 107 ∷ 61 ∷ 35 ∷ 35 ∷ 35 ∷ 35 ∷ 35 ∷ 35 ∷ 35 ∷ 35 ∷ []
+
+abbrev pub syncing : List ℕ
+syncing = 115 ∷ 121 ∷ 110 ∷ 99 ∷ 61 ∷ 35 ∷ []
+
+-- the expander has the widths 6 and 8
+unfoldable pub expands : ℕ → ℕ → Line
+expands width v = pick (eqb width 6) (Expand width v) (pick (eqb width 8) (Expand width v) Bad)
+
+-- an overlay enable is 0 or 1
+unfoldable pub shows : ℕ → ℕ → ℕ → Line
+shows enable o byte = pick (ltb enable 2) (PixelA enable o byte) Bad
+
+-- lines for every chip: a field is the number that so many digits spell, from a place on
+abbrev pub commonForms : List Form
+commonForms =
+    form writing (λ t. Write (number 1 1 t) (number 2 3 t)) ∷
+    form reading (λ t. Read (number 1 1 t)) ∷
+    form resetting (λ t. Reset) ∷
+    form expanding (λ t. expands (number 1 7 t) (number 4 8 t)) ∷
+    form choosingA (λ t. ChooseA) ∷
+    form choosingB (λ t. ChooseB) ∷
+    form choosingC (λ t. ChooseC) ∷
+    []
+
+-- lines for chip A
+abbrev pub aForms : List Form
+aForms =
+    form ticking (λ t. Tick) ∷
+    form showingA (λ t. shows (number 1 6 t) (number 1 7 t) (number 2 8 t)) ∷
+    form listing (λ t. Sheet) ∷
+    []
+
+-- lines for chip B
+abbrev pub bForms : List Form
+bForms =
+    form showingB (λ t. PixelB (number 1 6 t) (number 8 7 t)) ∷
+    form blanking (λ t. Blank (number 8 6 t)) ∷
+    form syncing (λ t. Sync (number 1 5 t)) ∷
+    []
+
+-- ---- A line
+
+-- what the first form that a line has says; the last argument where it has none
+unfoldable pub said : List Form → List ℕ → Line → Line
+said [] t other = other
+said (f ∷ fs) t other = pick (fits (f .pattern) t) (f .says t) (said fs t other)
+
+-- what a line says; one of no form, of any length, is bad
+abbrev pub lineOf : List ℕ → Line
+lineOf t = said commonForms t (said aForms t (said bForms t Bad))
