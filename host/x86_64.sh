@@ -1,13 +1,13 @@
 # Sourced by the host scripts, from the project's root: the tools that build and run x86-64 programs here.
 #
-# The kit compiles Rattle for x86-64 Linux. On such a machine gcc, cargo and no emulator are used. On another (Arm) they
-# are Debian's cross compilers and its user emulator, installed here if they are missing and this is root.
+# The kit compiles Rattle for x86-64 Linux. On such a machine gcc, cargo and no emulator are used. On another (Arm)
+# they are Debian's cross compilers and its user emulator, installed here if they are missing and this is root.
 #
 # Sets: host_cc, host_ar, host_run (words before a program), host_cargo (an array), host_target (cargo's folder),
 # host_sanitize (gcc's checks that run here).
 host_packages() {
     local missing=() name
-    for name in gcc-x86-64-linux-gnu qemu-user rustc cargo libstd-rust-dev:amd64; do
+    for name in gcc-x86-64-linux-gnu libc6-dev-amd64-cross qemu-user rustc cargo libstd-rust-dev:amd64; do
         dpkg-query -W -f '${Status}' "$name" 2>/dev/null | grep -q 'ok installed' || missing+=("$name")
     done
     [ ${#missing[@]} -eq 0 ] && return 0
