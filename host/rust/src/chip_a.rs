@@ -195,7 +195,6 @@ pub enum Call {
 
 impl Chip {
     /// As an accepted reset leaves it, every table zero.
-    #[cfg(test)]
     pub fn fresh() -> Chip {
         Chip { state: State::default(), colours: vec![0; COLOURS], overlays: vec![0; OVERLAYS] }
     }

@@ -261,7 +261,6 @@ pub enum Call {
 
 impl Chip {
     /// As an accepted reset leaves it, the map zero.
-    #[cfg(test)]
     pub fn fresh(revision: u8, board: u8) -> Chip {
         let state = State { command: 0x03, revision, board, ..State::default() };
         Chip { state, queue: vec![0; PLACES], map: vec![0; MAP] }

@@ -158,7 +158,6 @@ pub enum Call {
 
 impl Chip {
     /// As an accepted reset leaves it, the table zero.
-    #[cfg(test)]
     pub fn fresh() -> Chip {
         Chip { state: State::default(), table: vec![0; TABLE] }
     }

@@ -98,7 +98,7 @@ mod tests {
         let mut seen = BTreeSet::new();
         for _ in 0..20 {
             let log = log(&mut r, 40);
-            let answers = String::from_utf8(replay(&log)).unwrap();
+            let answers = String::from_utf8(replay(&log).concat()).unwrap();
             let sheets = answers.matches("chip=153108\n").count();
             let log_lines = log.split_inclusive(|b| *b == b'\n').count();
             assert_eq!(answers.lines().count(), log_lines + 264 * sheets);

@@ -44,7 +44,9 @@ struct LibShown {
 
 #[rustfmt::skip]
 extern "C" {
-    fn zk_a_write(s: LibState, select: u8, byte: u8, colours: *mut u8, n: usize, overlays: *mut u8, m: usize) -> LibAnswer;
+    fn zk_a_write(
+        s: LibState, select: u8, byte: u8, colours: *mut u8, n: usize, overlays: *mut u8, m: usize,
+    ) -> LibAnswer;
     fn zk_a_read(s: LibState, select: u8, colours: *const u8, n: usize, overlays: *const u8, m: usize) -> LibAnswer;
     fn zk_a_reset(s: LibState) -> LibAnswer;
     fn zk_a_step(k: LibClock) -> LibClockAnswer;

@@ -1,5 +1,5 @@
-//! The sheet's calls of the proved library. The answer is one number: refusal in bits 0 to 7, value 16 to 31, count 32 to
-//! 47, line 48 to 63.
+//! The sheet's calls of the proved library. The answer is one number: refusal in bits 0 to 7, value 16 to 31, count 32
+//! to 47, line 48 to 63.
 use crate::answer::Answer;
 use crate::chip_a::Chip;
 use crate::library_a::{state_in, LibState};

@@ -163,7 +163,6 @@ pub fn from_chip(s: &chip_a::State, colours: &[u8], overlays: &[u8], buffer: &mu
 }
 
 /// What the program `loadlist` prints for its input.
-#[cfg(test)]
 pub fn loadlist(input: &[u8]) -> String {
     match parse(&input[..input.len().min(4_096)]) {
         Ok(sheet) => calls(&sheet).iter().map(|(select, byte)| format!("w{}={:02x}\n", select, byte)).collect(),
