@@ -29,6 +29,7 @@ impl Test {
 }
 
 pub struct Run {
+    only: String,
     seed: u64,
     passed: u32,
     failed: u32,
@@ -39,10 +40,14 @@ impl Run {
         let given = std::env::var("ZK_SEED").ok();
         let seed = given.map_or(0x5a69_6b6f_6d62_6172, |s| s.parse().expect("ZK_SEED is a decimal number"));
         println!("seed {}", seed);
-        Run { seed, passed: 0, failed: 0 }
+        Run { only: std::env::args().nth(1).unwrap_or_default(), seed, passed: 0, failed: 0 }
     }
 
+    /// A test, unless the first argument asks for others.
     pub fn test(&mut self, name: &str, test: fn(&mut Test)) {
+        if !name.contains(&self.only) {
+            return;
+        }
         let mut t = Test { seed: self.seed, compared: 0, differs: 0 };
         test(&mut t);
         if t.differs == 0 && t.compared != 0 {

@@ -1,5 +1,6 @@
 //! The second implementation, driven beside the proved library and its programs on the same inputs. The seed is fixed
-//! unless ZK_SEED is set. The last line is 'N passed, M failed'; a test's first difference is printed with its input.
+//! unless ZK_SEED is set; an argument picks the tests with that word in their names. The last line is 'N passed, M
+//! failed'; a test's first difference is printed with its input.
 mod answer;
 mod check;
 mod chip_a;

@@ -167,27 +167,27 @@ mod tests {
     use crate::sheet::loadlist;
 
     /// What is printed for a log.
-    fn answers(log: &[u8]) -> Vec<u8> {
+    fn printed(log: &[u8]) -> Vec<u8> {
         replay(log).concat()
     }
 
     /// The log's lines and its answers, both written with spaces for LF.
     fn check(log: &str, answers: &str) {
-        let text = String::from_utf8(answers(log.replace(' ', "\n").as_bytes())).unwrap();
+        let text = String::from_utf8(printed(log.replace(' ', "\n").as_bytes())).unwrap();
         assert_eq!(text.trim_end().replace('\n', " "), answers, "{}", log);
     }
 
     #[test]
     fn lines_and_their_ends() {
-        assert_eq!(answers(b""), b"");
-        assert_eq!(answers(b"r0"), b"value=00\n");
-        assert_eq!(answers(b"r0\n"), b"value=00\n");
-        assert_eq!(answers(b"\n"), b"bad\n");
-        assert_eq!(answers(b"r0\n\nr0"), b"value=00\nbad\nvalue=00\n");
-        assert_eq!(answers(b"r0\r\n"), b"bad\n");
-        assert_eq!(answers(b"\xff\xfe\n\0\n"), b"bad\nbad\n");
-        assert_eq!(answers(&vec![b'r'; 100_000]), b"bad\n");
-        assert_eq!(answers(b" r0\nr0 \nw0 =00\nR0\nr00\nr\nr8=\n"), b"bad\n".repeat(7));
+        assert_eq!(printed(b""), b"");
+        assert_eq!(printed(b"r0"), b"value=00\n");
+        assert_eq!(printed(b"r0\n"), b"value=00\n");
+        assert_eq!(printed(b"\n"), b"bad\n");
+        assert_eq!(printed(b"r0\n\nr0"), b"value=00\nbad\nvalue=00\n");
+        assert_eq!(printed(b"r0\r\n"), b"bad\n");
+        assert_eq!(printed(b"\xff\xfe\n\0\n"), b"bad\nbad\n");
+        assert_eq!(printed(&vec![b'r'; 100_000]), b"bad\n");
+        assert_eq!(printed(b" r0\nr0 \nw0 =00\nR0\nr00\nr\nr8=\n"), b"bad\n".repeat(7));
     }
 
     #[test]
@@ -286,7 +286,7 @@ mod tests {
         let sheet = "chip=153108 readmask=00 blinkmask=ff overlay=40 timing=31 o1=f00 c10=0a5 c11=fff c20=123 ";
         let sheet = sheet.replace(' ', "\n");
         let log = loadlist(sheet.as_bytes()) + "sheet";
-        let answers = String::from_utf8(answers(log.as_bytes())).unwrap();
+        let answers = String::from_utf8(printed(log.as_bytes())).unwrap();
         let lines: Vec<&str> = answers.split_inclusive('\n').collect();
         assert_eq!(lines.len(), 19 + 265);
         assert!(lines[..19].iter().all(|line| *line == "ok\n"));
