@@ -199,7 +199,7 @@ fn ten(e: Expanded) -> Text
 {
     match e {
         Expanded::Ten(t) => text::ten(0, t),
-        Expanded::Refused(n) => text::ten(n, 0),
+        Expanded::Refused => text::ten(9, 0),
     }
 }
 

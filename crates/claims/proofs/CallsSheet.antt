@@ -15,10 +15,10 @@ use Rattle.sheet.specs.declared.Answer.the-variants.{Done, Refused}
 use Rattle.sheet.specs.Sheet.{sheetOf, badLine, writeRefusals, write, outcome, Heard, heard, telling}
 use Rattle.calls.specs.Calls.{callRefusals, sheetToCalls}
 use Rattle.claims.specs.Judged.{Judged}
-use Rattle.claims.specs.Determined.{Determined, DeterminedOf, Expansion, Numbered}
+use Rattle.claims.specs.Determined.{Determined, Numbered}
 use Rattle.claims.proofs.Judged.{judged}
 use Rattle.claims.proofs.Counts.{Counts, text-counts, calls-count}
-use Rattle.claims.proofs.Determined.{determined-of, number-determined}
+use Rattle.claims.proofs.Determined.{determined, determined-of, number-determined}
 
 -- ---- judged
 pub expansion-judged : (w v : ℕ) → Judged (refusals w v) 0 tt (expansion w v)
@@ -38,18 +38,17 @@ calls-judged text out = judged (callRefusals (sheetOf text) out) (badLine (sheet
 -- ---- determined: an expander's answer, and the number that C gets
 expandedOf : ℕ → ℕ → Expanded
 expandedOf zero value = Ten value
-expandedOf (suc n) value = ExpandRefused (suc n)
+expandedOf (suc n) value = ExpandRefused
 
-expanded-back : (a : Expanded) → Expansion a → expandedOf (meaning a .refusal) (meaning a .value) ≡ a
+expanded-back : (a : Expanded) → expandedOf (meaning a .refusal) (meaning a .value) ≡ a
 unfolding expandedOf
-expanded-back (Ten t) h = refl
-expanded-back (ExpandRefused zero) h = absurd (h refl)
-expanded-back (ExpandRefused (suc n)) h = refl
+expanded-back (Ten t) = refl
+expanded-back ExpandRefused = refl
 
 module _ (w v : ℕ) where
-  pub expand-determined : DeterminedOf Expansion meaning (expansion w v)
+  pub expand-determined : Determined meaning (expansion w v)
   expand-determined =
-      determined-of meaning (λ (o : Outcome Unit). expandedOf (o .refusal) (o .value)) Expansion expanded-back _
+      determined meaning (λ (o : Outcome Unit). expandedOf (o .refusal) (o .value)) expanded-back _
 
   pub c-expand-determined : Determined decoded (tellingOf (expansion w v))
   c-expand-determined = number-determined _

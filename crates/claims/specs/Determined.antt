@@ -2,8 +2,6 @@
 -- and each lent slice; `says` makes of it what the call's promise speaks of, and d is the promised outcome.
 use Prim.Native.Nat.{_<_}
 use mathlib.Core.Path.{_≡_}
-use Rattle.expand.specs.declared.Expanded.{Expanded}
-use Rattle.expand.specs.declared.Expanded.the-variants.{Ten, Refused as ExpandRefused}
 use Rattle.ms622424.specs.declared.Shown.{Shown}
 use Rattle.sheet.specs.declared.Answer.{Answer}
 use Rattle.sheet.specs.declared.Answer.the-variants.{Done, Refused}
@@ -20,11 +18,7 @@ Determined {A = A} says d = DeterminedOf {A = A} (λ a. Unit) says d
 abbrev pub Bytes : Shown → Type 0
 Bytes a = (a .red < 256) × (a .green < 256) × (a .blue < 256)
 
--- a refusal that an enum holds has a number; `Refused(0)` would mean what `Ten(0)` and `Done(0)` mean
-abbrev pub Expansion : Expanded → Type 0
-Expansion (Ten t) = Unit
-Expansion (ExpandRefused n) = n ≡ 0 → ⊥
-
+-- a refusal that the enum holds has a number; `Refused(0)` would mean what `Done(0)` means
 abbrev pub Numbered : Answer → Type 0
 Numbered (Done count) = Unit
 Numbered (Refused n line) = n ≡ 0 → ⊥

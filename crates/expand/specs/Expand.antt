@@ -3,7 +3,7 @@
 use Prim.Native.Nat.{ℕ, _+_, _*_, _/_, _-_, _^_}
 use mathlib.Core.List.{List, [], _∷_}
 use Rattle.vocabulary.specs.Range.{below, fails}
-use Rattle.vocabulary.specs.Refusal.{Row, _when_, outOfRange, refusalOf}
+use Rattle.vocabulary.specs.Refusal.{Row, _when_, outOfRange, number, refusalOf}
 use Rattle.vocabulary.specs.Outcome.{Outcome, accepting, refusing, answered}
 use Rattle.expand.specs.declared.Expanded.{Expanded}
 use Rattle.expand.specs.declared.Expanded.the-variants.{Ten, Refused}
@@ -23,4 +23,4 @@ expansion w v = answered (refusalOf (refusals w v)) tt (accepting (ten w v) 0 tt
 -- what each answer means
 abbrev pub meaning : Expanded → Outcome Unit
 meaning (Ten t) = accepting t 0 tt
-meaning (Refused n) = refusing n 0 tt
+meaning Refused = refusing (number outOfRange) 0 tt

@@ -14,7 +14,7 @@ use tables::SIX;
 
 pub enum Expanded {
     Ten(u16),
-    Refused(u8),
+    Refused,
 }
 
 // A byte as ten bits: chip C's port 6.
@@ -36,7 +36,7 @@ pub fn expand8(v: u32) -> Expanded
     ensures { λ r. ⌜ meaning r ≡ expansion 8 v ⌝ }
 {
     if 256 <= v {
-        return Expanded::Refused(9);
+        return Expanded::Refused;
     }
     Expanded::Ten(eight(v as u8))
 }
@@ -46,7 +46,7 @@ pub fn expand6(v: u32) -> Expanded
     ensures { λ r. ⌜ meaning r ≡ expansion 6 v ⌝ }
 {
     if 64 <= v {
-        return Expanded::Refused(9);
+        return Expanded::Refused;
     }
     Expanded::Ten(six(v as u8))
 }
@@ -57,7 +57,7 @@ fn told(e: Expanded) -> u64
 {
     match e {
         Expanded::Ten(t) => vocabulary::packed(0, t, 0, 0),
-        Expanded::Refused(n) => vocabulary::packed(n, 0, 0, 0),
+        Expanded::Refused => vocabulary::packed(9, 0, 0, 0),
     }
 }
 
