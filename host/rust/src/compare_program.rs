@@ -33,11 +33,11 @@ fn text(bytes: &[u8]) -> String {
     String::from_utf8_lossy(start).into_owned()
 }
 
-/// The answer's kind: all before a number that is not a refusal's.
+/// The kind of an answer: its line, without a value or a colour.
 fn kind(answer: &[u8]) -> String {
     let line = text(answer.split(|b| *b == b'\n').next().unwrap());
     match line.split_once('=') {
-        Some(("refused" | "chip", _)) | None => line,
+        Some(("refused" | "moved" | "chip", _)) | None => line,
         Some((name, _)) => name.to_string(),
     }
 }
@@ -68,7 +68,8 @@ pub fn logs(t: &mut Test) {
     for number in 0..LOGS * times() {
         log(t, number, &gen_log::log(&mut r, LOG_TASKS), &mut met);
     }
-    let kinds = "ok moved value colour sync ten chip=153108 bad refused=3 refused=4 refused=5 refused=6 refused=9";
+    let kinds = "ok moved=0 moved=4 value colour sync ten chip=153108 bad \
+                 refused=3 refused=4 refused=5 refused=6 refused=9";
     for kind in kinds.split(' ') {
         t.same(|| format!("{} met often", kind), &(met.get(kind).map_or(0, |n| *n) > 20), &true);
     }
