@@ -1,0 +1,160 @@
+/* Chip B in plain C, from document 01, "Chip B". */
+#include "plain.h"
+
+#include <string.h>
+
+/* Every waiting entry has an address below 8,192, and every other place is zero. No branch in either loop. */
+static int queue_in_range(const uint64_t *queue, unsigned waiting) {
+    uint64_t used = 0, unused = 0;
+    unsigned i;
+    for (i = 0; i < waiting; i++) used |= queue[i];
+    for (; i < ZK_B_PLACES; i++) unused |= queue[i];
+    return used < (uint64_t)ZK_B_ENTRIES << 24 && unused == 0;
+}
+
+/* refusals 1 and 9; a call that is lent no map gives its size as ZK_B_MAP */
+static unsigned standing(zk_b_state s, const uint64_t *queue, size_t places, size_t bytes) {
+    if (!CHECKED) return 0;
+    if (places != ZK_B_PLACES || bytes != ZK_B_MAP) return ZK_LENT_LENGTH;
+    if (s.address >= ZK_B_ENTRIES || s.counter > 2 || s.command > 31 || s.readmode > 1 || s.revision > 7 || s.board > 15
+        || s.waiting > ZK_B_PLACES)
+        return ZK_OUT_OF_RANGE;
+    return queue_in_range(queue, s.waiting) ? 0 : ZK_OUT_OF_RANGE;
+}
+
+static zk_b_answer answer(unsigned refusal, unsigned value, unsigned count, zk_b_state s) {
+    zk_b_answer a = {(uint8_t)refusal, (uint8_t)value, (uint16_t)count, s};
+    return a;
+}
+
+/* the smaller of slots and waiting entries go into the map, the oldest first */
+static unsigned transfer(zk_b_state *s, uint32_t slots, uint64_t *queue, uint8_t *map) {
+    unsigned waiting = s->waiting, moved = slots < waiting ? slots : waiting, i;
+    for (i = 0; i < moved; i++) {
+        uint8_t *entry = map + 3 * (queue[i] >> 24);
+        entry[0] = (uint8_t)queue[i];
+        entry[1] = (uint8_t)(queue[i] >> 8);
+        entry[2] = (uint8_t)(queue[i] >> 16);
+    }
+    memmove(queue, queue + moved, (waiting - moved) * sizeof *queue);
+    memset(queue + waiting - moved, 0, moved * sizeof *queue);
+    s->waiting = (uint8_t)(waiting - moved);
+    return moved;
+}
+
+static zk_b_state stepped(zk_b_state s) {
+    if (s.counter < 2) {
+        s.counter++;
+    } else {
+        s.counter = 0;
+        s.address = (uint16_t)((s.address + 1) & (ZK_B_ENTRIES - 1));
+    }
+    return s;
+}
+
+static zk_b_answer palette_write(zk_b_state s, uint8_t byte, uint64_t *queue, uint8_t *map) {
+    unsigned moved = s.waiting == ZK_B_PLACES ? transfer(&s, 4, queue, map) : 0;
+    if (s.counter == 0) {
+        s.red = byte;
+    } else if (s.counter == 1) {
+        s.green = byte;
+    } else {
+        queue[s.waiting++] = zk_b_entry(s.address, s.red, s.green, byte);
+    }
+    return answer(0, 0, moved, stepped(s));
+}
+
+zk_b_answer NAME(b_write)(zk_b_state s, uint8_t select, uint8_t byte, uint64_t *queue, size_t places, uint8_t *map,
+                          size_t bytes) {
+    unsigned refusal = standing(s, queue, places, bytes);
+    if (refusal != 0) return answer(refusal, 0, 0, s);
+    switch (select) {
+    case 0:
+        s.address = (uint16_t)((s.address & 0xff00) | byte);
+        s.counter = 0;
+        break;
+    case 1:
+        s.address = (uint16_t)((s.address & 0x00ff) | (byte & 31) << 8);
+        s.counter = 0;
+        break;
+    case 2:
+        if (s.readmode) return answer(ZK_READ_MODE, 0, 0, s);
+        return palette_write(s, byte, queue, map);
+    case 3: s.command = byte & 31; break;
+    case 7: s.readmode = 1; break;
+    default: return answer(ZK_NO_ACCESS, 0, 0, s);
+    }
+    return answer(0, 0, 0, s);
+}
+
+static unsigned status(zk_b_state s) {
+    unsigned mark = (s.command & 16) != 0 ? 56 : 32;
+    return s.counter | (s.waiting != 0) << 2 | (s.waiting < mark) << 3 | (s.waiting < ZK_B_PLACES) << 4;
+}
+
+zk_b_answer NAME(b_read)(zk_b_state s, uint8_t select, const uint64_t *queue, size_t places, const uint8_t *map,
+                         size_t bytes) {
+    unsigned refusal = standing(s, queue, places, bytes);
+    if (refusal != 0) return answer(refusal, 0, 0, s);
+    switch (select) {
+    case 0: return answer(0, s.address & 0xff, 0, s);
+    case 1: return answer(0, s.address >> 8, 0, s);
+    case 2:
+        if (!s.readmode) return answer(ZK_READ_MODE, 0, 0, s);
+        if (s.waiting != 0) return answer(ZK_STILL_WAITING, 0, 0, s);
+        return answer(0, map[3 * s.address + s.counter], 0, stepped(s));
+    case 3: return answer(0, s.command, 0, s);
+    case 4: return answer(0, status(s), 0, s);
+    case 5:
+        if (s.counter == 2) return answer(ZK_NO_ACCESS, 0, 0, s);
+        if (s.counter == 1) return answer(0, s.green, 0, s);
+        s.counter = 1;
+        return answer(0, s.red, 0, s);
+    case 6: return answer(0, s.board << 4 | s.revision, 0, s);
+    case 7: s.readmode = 0; return answer(0, 0, 0, s);
+    default: return answer(ZK_NO_ACCESS, 0, 0, s);
+    }
+}
+
+zk_b_answer NAME(b_blank)(zk_b_state s, uint32_t slots, uint64_t *queue, size_t places, uint8_t *map, size_t bytes) {
+    unsigned refusal = standing(s, queue, places, bytes), moved;
+    if (CHECKED && refusal == 0 && slots > 65535) refusal = ZK_OUT_OF_RANGE;
+    if (refusal != 0) return answer(refusal, 0, 0, s);
+    moved = transfer(&s, slots, queue, map);
+    return answer(0, 0, moved, s);
+}
+
+zk_b_shown NAME(b_pixel)(zk_b_state s, uint8_t mode, uint32_t word, const uint64_t *queue, size_t places,
+                         const uint8_t *map, size_t bytes) {
+    unsigned refusal = standing(s, queue, places, bytes);
+    zk_b_shown shown = {(uint8_t)refusal, 0, 0, 0};
+    if (CHECKED && refusal == 0 && (mode > 3 || word > 0xffffff)) shown.refusal = ZK_OUT_OF_RANGE;
+    if (shown.refusal != 0) return shown;
+    if (mode == 0) {
+        const uint8_t *entry = map + 3 * (word & (ZK_B_ENTRIES - 1));
+        shown.red = entry[0];
+        shown.green = entry[1];
+        shown.blue = entry[2];
+    } else {
+        const uint8_t *part = map + 3 * (7168 + 256 * mode);
+        shown.red = part[3 * (word & 0xff)];
+        shown.green = part[3 * (word >> 8 & 0xff) + 1];
+        shown.blue = part[3 * (word >> 16) + 2];
+    }
+    return shown;
+}
+
+zk_b_answer NAME(b_sync)(zk_b_state s, uint8_t signals, const uint64_t *queue, size_t places) {
+    unsigned refusal = standing(s, queue, places, ZK_B_MAP);
+    if (CHECKED && refusal == 0 && signals > 15) refusal = ZK_OUT_OF_RANGE;
+    if (refusal != 0) return answer(refusal, 0, 0, s);
+    return answer(0, (signals & s.command & 3) | ((signals | s.command) & 12), 0, s);
+}
+
+zk_b_answer NAME(b_reset)(zk_b_state s, uint64_t *queue, size_t places) {
+    zk_b_state fresh = {0, 0, 0, 0, 3, 0, s.revision, s.board, 0};
+    if (CHECKED && places != ZK_B_PLACES) return answer(ZK_LENT_LENGTH, 0, 0, s);
+    if (CHECKED && (s.revision > 7 || s.board > 15)) return answer(ZK_OUT_OF_RANGE, 0, 0, s);
+    memset(queue, 0, ZK_B_PLACES * sizeof *queue);
+    return answer(0, 0, 0, fresh);
+}

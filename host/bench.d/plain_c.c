@@ -1,0 +1,126 @@
+/* Chip C and the expanders in plain C, from document 01, "Chip C". The expanders are the rule, not a table. */
+#include "plain.h"
+
+enum { NUMBERS = 3072, WRITE_SPACE = 0x4000, READ_SPACE = 0x8000, UPDATE_CONTROL = 0x000E, WRAI = 2, RDAI = 4 };
+
+static uint16_t linear8(unsigned v) { return (uint16_t)(v << 2 | v >> 6); }
+static uint16_t linear6(unsigned v) { return (uint16_t)(v << 4 | v >> 2); }
+
+uint64_t NAME(expand8)(uint32_t component) {
+    if (CHECKED && component > 255) return ZK_OUT_OF_RANGE;
+    return (uint64_t)linear8(component) << 16;
+}
+
+uint64_t NAME(expand6)(uint32_t component) {
+    if (CHECKED && component > 63) return ZK_OUT_OF_RANGE;
+    return (uint64_t)linear6(component) << 16;
+}
+
+/* refusals 1 and 9 */
+static unsigned standing(zk_c_state s, size_t length) {
+    if (!CHECKED) return 0;
+    if (length != NUMBERS) return ZK_LENT_LENGTH;
+    return s.place > 2 || s.red > 1023 || s.green > 1023 || s.fetched.red > 1023 || s.fetched.green > 1023
+                   || s.fetched.blue > 1023
+               ? ZK_OUT_OF_RANGE
+               : 0;
+}
+
+static zk_c_answer answer(unsigned refusal, unsigned value, zk_c_state s) {
+    zk_c_answer a = {(uint8_t)refusal, (uint8_t)value, s};
+    return a;
+}
+
+static int in_space(unsigned index, unsigned space) { return (index & 0xfc00) == space; }
+
+static zk_c_state prefetch(zk_c_state s, const uint16_t *table) {
+    if (in_space(s.index, READ_SPACE)) {
+        const uint16_t *entry = table + 3 * (s.index & 0x3ff);
+        s.fetched.red = entry[0] & 0x3ff;
+        s.fetched.green = entry[1] & 0x3ff;
+        s.fetched.blue = entry[2] & 0x3ff;
+    }
+    return s;
+}
+
+/* after the third access; bit is the one of 0x000E that stops auto-increment */
+static zk_c_state restart(zk_c_state s, unsigned bit, const uint16_t *table) {
+    s.place = 0;
+    if ((s.update & bit) != 0) return s;
+    s.index = (uint16_t)((s.index & 0xfc00) | ((s.index + 1) & 0x3ff));
+    return prefetch(s, table);
+}
+
+static zk_c_state palette_write(zk_c_state s, uint8_t byte, uint16_t *table) {
+    uint16_t v = linear8(byte), *entry = table + 3 * (s.index & 0x3ff);
+    if (s.place == 0) {
+        s.red = v;
+        s.place = 1;
+        return s;
+    }
+    if (s.place == 1) {
+        s.green = v;
+        s.place = 2;
+        return s;
+    }
+    entry[0] = s.red;
+    entry[1] = s.green;
+    entry[2] = v;
+    return restart(s, WRAI, table);
+}
+
+zk_c_answer NAME(c_write)(zk_c_state s, uint8_t port, uint8_t byte, uint16_t *table, size_t length) {
+    unsigned refusal = standing(s, length);
+    if (refusal != 0) return answer(refusal, 0, s);
+    switch (port) {
+    case 4: s.index = (uint16_t)((s.index & 0xff00) | byte); break;
+    case 5:
+        s.index = (uint16_t)((s.index & 0x00ff) | byte << 8);
+        s.place = 0;
+        s = prefetch(s, table);
+        break;
+    case 6:
+        if (s.index == UPDATE_CONTROL) {
+            s.update = byte;
+        } else if (in_space(s.index, WRITE_SPACE)) {
+            s = palette_write(s, byte, table);
+        } else {
+            return answer(ZK_NO_INDEX, 0, s);
+        }
+        break;
+    default: return answer(ZK_NO_ACCESS, 0, s);
+    }
+    return answer(0, 0, s);
+}
+
+static zk_c_answer palette_read(zk_c_state s, const uint16_t *table) {
+    if (s.place == 0) {
+        s.place = 1;
+        return answer(0, s.fetched.red >> 2, s);
+    }
+    if (s.place == 1) {
+        s.place = 2;
+        return answer(0, s.fetched.green >> 2, s);
+    }
+    return answer(0, s.fetched.blue >> 2, restart(s, RDAI, table));
+}
+
+zk_c_answer NAME(c_read)(zk_c_state s, uint8_t port, const uint16_t *table, size_t length) {
+    unsigned refusal = standing(s, length);
+    if (refusal != 0) return answer(refusal, 0, s);
+    switch (port) {
+    case 4: return answer(0, s.index & 0xff, s);
+    case 5: return answer(0, s.index >> 8, s);
+    case 6:
+        if (s.index == UPDATE_CONTROL) return answer(0, s.update, s);
+        if (in_space(s.index, READ_SPACE)) return palette_read(s, table);
+        return answer(ZK_NO_INDEX, 0, s);
+    default: return answer(ZK_NO_ACCESS, 0, s);
+    }
+}
+
+zk_c_answer NAME(c_reset)(zk_c_state s) {
+    zk_c_state zero = {0};
+    (void)s;
+    return answer(0, 0, zero);
+}

@@ -1,0 +1,244 @@
+/* The works, of one prefix: compiled with PREFIX zk, plain and bare. */
+#include "works.h"
+
+#include <string.h>
+
+#define JOIN_(a, b) a##_##b
+#define JOIN(a, b) JOIN_(a, b)
+#define CALL(name) JOIN(PREFIX, name)
+
+static void see(struct seen *seen, const void *answer, size_t n, unsigned refusal) {
+    const uint8_t *bytes = answer;
+    seen->calls++;
+    seen->number += refusal;
+    if (seen->all)
+        for (size_t i = 0; i < n; i++) seen->number = (seen->number ^ bytes[i]) * 0x100000001b3u;
+}
+#define SEE(a) see(seen, &(a), sizeof(a), (a).refusal)
+#define TABLES lent->colours, sizeof lent->colours, lent->overlays, sizeof lent->overlays
+#define QUEUE lent->queue, ZK_B_PLACES
+#define MAP lent->map, sizeof lent->map
+#define TABLE lent->table, 3072
+
+/* ---- chip A */
+static void write_a(struct lent *lent, struct seen *seen, uint8_t select, unsigned bytes) {
+    zk_a_state s = {0};
+    zk_a_answer a = CALL(a_write)(s, 0, 0, TABLES);
+    SEE(a);
+    for (unsigned i = 0; i < bytes; i++) {
+        a = CALL(a_write)(a.state, select, (uint8_t)(7 * i), TABLES);
+        SEE(a);
+    }
+}
+static void a_write_colours(struct lent *lent, struct seen *seen) { write_a(lent, seen, 1, 768); }
+static void a_write_overlays(struct lent *lent, struct seen *seen) { write_a(lent, seen, 3, 12); }
+
+static void read_a(struct lent *lent, struct seen *seen, uint8_t select, unsigned bytes) {
+    zk_a_state s = {0};
+    zk_a_answer a = CALL(a_read)(s, 0, TABLES);
+    SEE(a);
+    for (unsigned i = 0; i < bytes; i++) {
+        a = CALL(a_read)(a.state, select, TABLES);
+        SEE(a);
+    }
+}
+static void a_read_colours(struct lent *lent, struct seen *seen) { read_a(lent, seen, 1, 768); }
+static void a_read_overlays(struct lent *lent, struct seen *seen) { read_a(lent, seen, 3, 12); }
+
+static void a_registers(struct lent *lent, struct seen *seen) {
+    zk_a_answer a = {0};
+    for (uint8_t select = 4; select < 8; select++) {
+        a = CALL(a_write)(a.state, select, 0xa5, TABLES);
+        SEE(a);
+        a = CALL(a_read)(a.state, select, TABLES);
+        SEE(a);
+    }
+}
+
+static void a_tick(struct lent *lent, struct seen *seen) {
+    zk_a_clock k = {0xff, 0};
+    (void)lent;
+    for (unsigned i = 0; i < 130; i++) {
+        zk_a_clock_answer a;
+        a.refusal = CALL(a_tick)(&k);
+        a.clock = k;
+        SEE(a);
+    }
+}
+
+static void pixel_a(struct lent *lent, struct seen *seen, uint8_t enable) {
+    zk_a_state s = {0, 0, 0, 0, 0x80, 0x7e, 0x08, {0x31, 9}};
+    for (unsigned i = 0; i < 256; i++) {
+        zk_a_shown a = CALL(a_pixel)(s, TABLES, enable, i & 3, (uint8_t)i);
+        SEE(a);
+    }
+}
+static void a_pixel_colour(struct lent *lent, struct seen *seen) { pixel_a(lent, seen, 0); }
+static void a_pixel_overlay(struct lent *lent, struct seen *seen) { pixel_a(lent, seen, 1); }
+
+/* ---- chip B */
+static zk_b_state with_waiting(struct lent *lent, unsigned waiting) {
+    zk_b_state s = {64, 0, 1, 2, 3, 0, 3, 5, (uint8_t)waiting};
+    memcpy(lent->queue, lent->entries, waiting * sizeof *lent->queue);
+    memset(lent->queue + waiting, 0, (ZK_B_PLACES - waiting) * sizeof *lent->queue);
+    return s;
+}
+
+static void write_b(struct lent *lent, struct seen *seen, unsigned waiting) {
+    zk_b_answer a = {0, 0, 0, with_waiting(lent, waiting)};
+    for (unsigned i = 0; i < 192; i++) {
+        a = CALL(b_write)(a.state, 2, (uint8_t)i, QUEUE, MAP);
+        SEE(a);
+    }
+}
+static void b_write_filling(struct lent *lent, struct seen *seen) { write_b(lent, seen, 0); }
+static void b_write_full(struct lent *lent, struct seen *seen) { write_b(lent, seen, 64); }
+
+static void b_write_address(struct lent *lent, struct seen *seen) {
+    zk_b_answer a = {0, 0, 0, with_waiting(lent, 0)};
+    for (unsigned i = 0; i < 192; i++) {
+        a = CALL(b_write)(a.state, i & 1, (uint8_t)i, QUEUE, MAP);
+        SEE(a);
+    }
+}
+
+static void blank_b(struct lent *lent, struct seen *seen, unsigned waiting, uint32_t slots, unsigned calls) {
+    zk_b_answer a = {0, 0, 0, with_waiting(lent, waiting)};
+    for (unsigned i = 0; i < calls; i++) {
+        a = CALL(b_blank)(a.state, slots, QUEUE, MAP);
+        SEE(a);
+    }
+}
+static void b_blank_all(struct lent *lent, struct seen *seen) { blank_b(lent, seen, 64, 64, 1); }
+static void b_blank_one(struct lent *lent, struct seen *seen) { blank_b(lent, seen, 64, 1, 64); }
+static void b_blank_none(struct lent *lent, struct seen *seen) { blank_b(lent, seen, 0, 64, 64); }
+
+static void b_read_map(struct lent *lent, struct seen *seen) {
+    zk_b_answer a = {0, 0, 0, with_waiting(lent, 0)};
+    a.state.readmode = 1;
+    for (unsigned i = 0; i < 768; i++) {
+        a = CALL(b_read)(a.state, 2, QUEUE, MAP);
+        SEE(a);
+    }
+}
+
+static void b_read_status(struct lent *lent, struct seen *seen) {
+    zk_b_answer a = {0, 0, 0, with_waiting(lent, 33)};
+    for (unsigned i = 0; i < 192; i++) {
+        a = CALL(b_read)(a.state, 4, QUEUE, MAP);
+        SEE(a);
+    }
+}
+
+static void pixel_b(struct lent *lent, struct seen *seen, unsigned waiting, uint8_t mode) {
+    zk_b_state s = with_waiting(lent, waiting);
+    for (uint32_t i = 0; i < 256; i++) {
+        zk_b_shown a = CALL(b_pixel)(s, mode, 0x010305 * i & 0xffffff, QUEUE, MAP);
+        SEE(a);
+    }
+}
+static void b_pixel_0(struct lent *lent, struct seen *seen) { pixel_b(lent, seen, 0, 0); }
+static void b_pixel_0_waiting(struct lent *lent, struct seen *seen) { pixel_b(lent, seen, 33, 0); }
+static void b_pixel_123(struct lent *lent, struct seen *seen) {
+    for (uint8_t mode = 1; mode < 4; mode++) pixel_b(lent, seen, 0, mode);
+}
+
+static void b_sync(struct lent *lent, struct seen *seen) {
+    zk_b_state s = with_waiting(lent, 0);
+    for (uint8_t i = 0; i < 16; i++) {
+        zk_b_answer a = CALL(b_sync)(s, i, QUEUE);
+        SEE(a);
+    }
+}
+
+/* ---- chip C and the expanders */
+static zk_c_answer index_c(struct lent *lent, struct seen *seen, uint8_t high) {
+    zk_c_state s = {0};
+    zk_c_answer a = CALL(c_write)(s, 4, 0, TABLE);
+    SEE(a);
+    a = CALL(c_write)(a.state, 5, high, TABLE);
+    SEE(a);
+    return a;
+}
+
+static void c_write_table(struct lent *lent, struct seen *seen) {
+    zk_c_answer a = index_c(lent, seen, 0x40);
+    for (unsigned i = 0; i < 3072; i++) {
+        a = CALL(c_write)(a.state, 6, (uint8_t)(5 * i), TABLE);
+        SEE(a);
+    }
+}
+
+static void c_read_table(struct lent *lent, struct seen *seen) {
+    zk_c_answer a = index_c(lent, seen, 0x80);
+    for (unsigned i = 0; i < 3072; i++) {
+        a = CALL(c_read)(a.state, 6, TABLE);
+        SEE(a);
+    }
+}
+
+static void see_number(struct seen *seen, uint64_t answer) { see(seen, &answer, sizeof answer, zk_refusal(answer)); }
+
+static void expand_8(struct lent *lent, struct seen *seen) {
+    (void)lent;
+    for (uint32_t i = 0; i < 256; i++) see_number(seen, CALL(expand8)(i));
+}
+
+static void expand_6(struct lent *lent, struct seen *seen) {
+    (void)lent;
+    for (uint32_t i = 0; i < 64; i++) see_number(seen, CALL(expand6)(i));
+}
+
+/* ---- sheets */
+static void to_calls(struct lent *lent, struct seen *seen, const uint8_t *text, size_t length) {
+    for (unsigned i = 0; i < 16; i++)
+        see_number(seen, CALL(sheet_to_calls)(text, length, lent->calls, sizeof lent->calls));
+}
+
+static void sheet_whole(struct lent *lent, struct seen *seen) { to_calls(lent, seen, lent->whole, ZK_SHEET_BYTES); }
+static void sheet_damaged(struct lent *lent, struct seen *seen) { to_calls(lent, seen, lent->damaged, ZK_SHEET_BYTES); }
+static void sheet_short(struct lent *lent, struct seen *seen) {
+    static const char nine[] = "chip=153108\nreadmask=00\nblinkmask=ff\noverlay=40\ntiming=31\no1=f00\nc10=0a5\nc11=fff\n"
+                               "c20=123\n";
+    to_calls(lent, seen, (const uint8_t *)nine, sizeof nine - 1);
+}
+
+static void sheet_writer(struct lent *lent, struct seen *seen) {
+    zk_a_state s = {0};
+    for (unsigned i = 0; i < 16; i++)
+        see_number(seen, CALL(sheet_write)(s, TABLES, lent->sheet, sizeof lent->sheet));
+}
+
+#define A_TESTS "2 lengths, 5 ranges of the state"
+#define B_TESTS "2 lengths, 7 ranges of the state, 64 places of the queue"
+#define C_TESTS "the length, 6 ranges of the state"
+const struct work CALL(works)[WORKS] = {
+    {"A write, 256 colours", a_write_colours, 1, A_TESTS},
+    {"A write, 4 overlays", a_write_overlays, 1, A_TESTS},
+    {"A read, 256 colours", a_read_colours, 1, A_TESTS},
+    {"A read, 4 overlays", a_read_overlays, 1, A_TESTS},
+    {"A write and read, registers", a_registers, 1, A_TESTS},
+    {"A tick, lent clock", a_tick, 1, "1 range of the clock"},
+    {"A pixel, colour", a_pixel_colour, 1, A_TESTS ", 2 of the pixel"},
+    {"A pixel, overlay", a_pixel_overlay, 1, A_TESTS ", 2 of the pixel"},
+    {"B write colours, queue filling", b_write_filling, 1, B_TESTS},
+    {"B write colours, queue full", b_write_full, 1, B_TESTS},
+    {"B write address, queue empty", b_write_address, 1, B_TESTS},
+    {"B blank, 64 slots, 64 waiting", b_blank_all, 1, B_TESTS ", the slots"},
+    {"B blank, 1 slot, 64 to 1 waiting", b_blank_one, 1, B_TESTS ", the slots"},
+    {"B blank, none waiting", b_blank_none, 1, B_TESTS ", the slots"},
+    {"B read, map", b_read_map, 1, B_TESTS},
+    {"B read, status, 33 waiting", b_read_status, 1, B_TESTS},
+    {"B pixel, mode 0", b_pixel_0, 1, B_TESTS ", mode and word"},
+    {"B pixel, mode 0, 33 waiting", b_pixel_0_waiting, 1, B_TESTS ", mode and word"},
+    {"B pixel, modes 1 to 3", b_pixel_123, 1, B_TESTS ", mode and word"},
+    {"B timing signals", b_sync, 1, "1 length, 7 ranges of the state, 64 places of the queue, the signals"},
+    {"C write, 1,024 colours", c_write_table, 1, C_TESTS},
+    {"C read, 1,024 colours", c_read_table, 1, C_TESTS},
+    {"expand, 8 bits", expand_8, 1, "the component"},
+    {"expand, 6 bits", expand_6, 1, "the component"},
+    {"sheet to calls, 265 lines", sheet_whole, 0, "every byte of the text, the buffer's length"},
+    {"sheet to calls, 9 lines", sheet_short, 0, "every byte of the text, the buffer's length"},
+    {"sheet to calls, line 265 bad", sheet_damaged, 0, "every byte of the text up to the bad line"},
+    {"sheet writer", sheet_writer, 1, A_TESTS ", 780 bytes of the tables, the buffer's length"},
+};

@@ -1,0 +1,35 @@
+/* works.h: the works that are measured, each of them for the proved library (zk), plain C (plain) and plain C that
+ * tests nothing (bare). */
+#ifndef WORKS_H
+#define WORKS_H
+
+#include "plain.h"
+
+/* What the calls are lent; the sheets, and the entries that may wait, made beforehand. */
+struct lent {
+    uint8_t colours[ZK_A_COLOURS], overlays[ZK_A_OVERLAYS], map[ZK_B_MAP];
+    uint64_t queue[ZK_B_PLACES], entries[ZK_B_PLACES];
+    uint16_t table[3072];
+    uint8_t whole[ZK_SHEET_BYTES + 1], damaged[ZK_SHEET_BYTES + 1]; /* sprintf puts a 0 behind */
+    uint8_t calls[ZK_CALLS_BYTES], sheet[ZK_SHEET_BYTES];
+};
+
+/* What a work has done: how many calls, and a number from their answers: of every byte where all is asked for, else of
+ * the refusals alone, so that little but the calls is timed. */
+struct seen {
+    unsigned long calls;
+    uint64_t number;
+    int all;
+};
+
+struct work {
+    const char *name;
+    void (*run)(struct lent *, struct seen *);
+    int bare;              /* whether it has a variant that tests nothing */
+    const char *validates; /* what each call tests */
+};
+
+enum { WORKS = 28 };
+extern const struct work zk_works[WORKS], plain_works[WORKS], bare_works[WORKS];
+
+#endif
