@@ -17,14 +17,22 @@ pub enum Expanded {
     Refused,
 }
 
-// A byte as ten bits: chip C's port 6.
+// A byte as ten bits, by the 8-bit rule: chip C's port 6, at each byte of which a table would be built anew.
 pub fn eight(v: u8) -> u16
+    ensures { λ r. ⌜ r ≡ ten 8 v ⌝ }
+{
+    let w = v as u16;
+    4 * w + w / 64
+}
+
+// The tables' entries.
+fn eight_listed(v: u8) -> u16
     ensures { λ r. ⌜ r ≡ ten 8 v ⌝ }
 {
     EIGHT[v as usize]
 }
 
-fn six(v: u8) -> u16
+fn six_listed(v: u8) -> u16
     requires { ⌜ v < 64 ⌝ }
     ensures { λ r. ⌜ r ≡ ten 6 v ⌝ }
 {
@@ -38,7 +46,7 @@ pub fn expand8(v: u32) -> Expanded
     if 256 <= v {
         return Expanded::Refused;
     }
-    Expanded::Ten(eight(v as u8))
+    Expanded::Ten(eight_listed(v as u8))
 }
 
 // A component of 6 bits as ten.
@@ -48,7 +56,7 @@ pub fn expand6(v: u32) -> Expanded
     if 64 <= v {
         return Expanded::Refused;
     }
-    Expanded::Ten(six(v as u8))
+    Expanded::Ten(six_listed(v as u8))
 }
 
 // The number that tells C an answer.

@@ -1,5 +1,4 @@
 use Rattle.expand.specs.Expand.{ten}
-use Rattle.vocabulary.proofs.Table.{table-rule}
 use borrow.Author.Needs.{needs}
 use Rattle.expand.proofs.eight.Statement.{statement}
 use Rattle.expand.proofs.eight.Tie as tie
@@ -7,12 +6,12 @@ use Rattle.expand.proofs.eight.Tie as tie
 mul-result : tie.Need-mul-result
 mul-result c = search needs
 
-array-read-result : tie.Need-array-read-result
-array-read-result c = search needs
+add-result : tie.Need-add-result
+add-result c = search needs
 
 returns : tie.Need-returns
 unfolding ten
-returns c = table-rule (ten 8) 256 (c .args .v) (search needs)
+returns c = search needs
 
 pub eight-spec : {M : Type 1} → statement M
-eight-spec = tie.close (tie.spec mul-result array-read-result returns)
+eight-spec = tie.close (tie.spec mul-result add-result returns)

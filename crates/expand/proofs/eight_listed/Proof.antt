@@ -1,0 +1,18 @@
+use Rattle.expand.specs.Expand.{ten}
+use Rattle.vocabulary.proofs.Table.{table-rule}
+use borrow.Author.Needs.{needs}
+use Rattle.expand.proofs.eight_listed.Statement.{statement}
+use Rattle.expand.proofs.eight_listed.Tie as tie
+
+mul-result : tie.Need-mul-result
+mul-result c = search needs
+
+array-read-result : tie.Need-array-read-result
+array-read-result c = search needs
+
+returns : tie.Need-returns
+unfolding ten
+returns c = table-rule (ten 8) 256 (c .args .v) (search needs)
+
+pub eight-listed-spec : {M : Type 1} → statement M
+eight-listed-spec = tie.close (tie.spec mul-result array-read-result returns)
