@@ -2,30 +2,26 @@
 use Prim.Native.Nat.{ℕ, zero, suc, _+_, _*_, _-_, _/_, _≤_, _<_}
 use mathlib.Core.Path.{_≡_, refl, sym, ap, _∙_}
 use mathlib.Core.List.{List, [], _∷_, _++_}
-use mathlib.Core.Bool.{Bool, true, false}
+use mathlib.Core.Bool.{true, false}
 use native.Mathlib.Omega.{arith}
 use native.Mathlib.Numerals.{add-one, add-two}
 use lib.Dec.{eqb}
-use lib.ListN.{length, getD, take, drop}
+use lib.ListN.{length, getD}
 use lib.Seq.{drop-cons}
 use borrow.Author.Tests.{ne-eqb}
-use Rattle.vocabulary.specs.Range.{Bound, fails, Holds}
+use Rattle.vocabulary.specs.Range.{Holds}
 use Rattle.vocabulary.specs.Refusal.{lentLength, outOfRange, refusalOf}
 use Rattle.vocabulary.specs.Outcome.{Outcome, accepting}
-use Rattle.vocabulary.proofs.Range.{clash, holds-passes, not-fails, passes-holds, holds-parts}
+use Rattle.vocabulary.proofs.Range.{clash, holds-passes, not-fails, holds-parts, fails-left}
 use Rattle.vocabulary.proofs.Refusal.{refusal-is, refusal-none, standing-clear}
 use Rattle.vocabulary.proofs.Outcome.{refused-as, accepted-does}
-use Rattle.hd153108.specs.Hd153108.{Chip, Table, colour, overlay, tableOf, isOff, masked, selected, shownTable}
+use Rattle.hd153108.specs.Hd153108.{Chip, Table, colour, overlay, tableOf, isOff, selected, shownTable}
 use Rattle.hd153108.specs.Hd153108.{shownEntry, colourAt, shown, ranges, pixelRanges, short, pixelRefusals, pixelOr}
 use Rattle.hd153108.proofs.Access.{tried, known, stops}
 use Rattle.hd153108_pixel.specs.declared.Pick.{Pick}
 use Rattle.hd153108_pixel.specs.declared.Pick.the-variants.{Colour, Overlay, Refused}
 use Rattle.hd153108_pixel.specs.Picked.{isColour, meaning, Inside, Picked}
 use Rattle.hd153108.proofs.Masks.{masked-fits}
-
--- what fails a part of the ranges fails them
-fails-part : (cs bs : List Bound) → fails cs ≡ true → fails (cs ++ bs) ≡ true
-fails-part cs bs e = not-fails (cs ++ bs) (λ g. clash (sym e ∙ holds-passes cs (holds-parts cs bs g .0)))
 
 is-colour : (t : Table) → isColour t ≡ true → t ≡ colour
 is-colour colour e = refl
@@ -40,7 +36,7 @@ module _ (enable number byte : ℕ) (c : Chip) where
   pub picked-first : {n : ℕ} → n ≡ tried c → (n ≡ 0 → ⊥) → Picked enable number byte c (Refused n)
   unfolding pixelOr
   picked-first e h = record {
-    means = λ none. stops c none (pixelRefusals enable number c) _ e h refl (fails-part _ _);
+    means = λ none. stops c none (pixelRefusals enable number c) _ e h refl (fails-left _ _);
     inside = tt;
   }
 

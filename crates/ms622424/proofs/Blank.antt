@@ -9,7 +9,8 @@ use Rattle.vocabulary.proofs.Range.{holds-passes, not-fails}
 use Rattle.ms622424.specs.Ms622424.{Chip, Sound}
 use Rattle.ms622424.specs.Ms622424.{Moves, made}
 use Rattle.ms622424.specs.Ms622424.{moves, blankRefusals, blank}
-use Rattle.ms622424.proofs.Access.{stops, goes-on, lengths-right}
+use Rattle.vocabulary.proofs.Call.{stops, goes-on}
+use Rattle.ms622424.proofs.Access.{lengths-right}
 use Prim.Native.Nat.{min}
 use Rattle.ms622424.proofs.Waiting.{moves-count, moves-least}
 
@@ -17,7 +18,7 @@ module _ (slots : ℕ) (c : Chip) (h : Sound c) where
   pub blank-too-many : 65536 ≤ slots → refusing 9 0 c ≡ blank slots c
   unfolding blank
   blank-too-many l =
-      stops (blankRefusals slots c) c _ (lentLength ∷ []) outOfRange 8 _ refl refl (lengths-right c h, tt)
+      stops (blankRefusals slots c) 0 c _ (lentLength ∷ []) outOfRange 8 _ refl refl (lengths-right c h, tt)
       (not-fails _ (λ g. omega arith))
 
   pub blank-does : slots < 65536 → (n : ℕ) (after : Chip) → made n after ≡ moves slots c
@@ -25,7 +26,7 @@ module _ (slots : ℕ) (c : Chip) (h : Sound c) where
   unfolding blank
   blank-does l n after e =
       ap (λ (m : Moves). accepting 0 (m .count) (m .after)) e
-      ∙ goes-on (blankRefusals slots c) c _ (lengths-right c h, (holds-passes _ (l, h .2), tt))
+      ∙ goes-on (blankRefusals slots c) 0 c _ (lengths-right c h, (holds-passes _ (l, h .2), tt))
 
 module _ (slots : ℕ) (c : Chip) (h : Sound c) (few : slots < 65536) where
   -- blanking reports the smaller of slots and waiting, ..

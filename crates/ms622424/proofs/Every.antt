@@ -10,16 +10,8 @@ use lib.Dec.{ltb, eqb}
 use lib.ListN.{length, getD, take, drop, replicate, length-drop}
 use lib.Pow.{pow-pos}
 use lib.Seq.{take-suc, take-all, getD-drop}
-use Rattle.vocabulary.proofs.Range.{agree, clash}
+use Rattle.vocabulary.proofs.Range.{agree, both, pair}
 use Rattle.ms622424.specs.Ms622424.{every, held, inMap, isZero}
-
--- both tests of a pair, and a pair of both
-pub both : (b c : Bool) → (b && c) ≡ true → (b ≡ true) × (c ≡ true)
-both true c e = (refl, e)
-both false c e = clash (sym e)
-
-pub pair : {b c : Bool} → b ≡ true → c ≡ true → (b && c) ≡ true
-pair e f = rw e f
 
 and-assoc : (a b c : Bool) → ((a && b) && c) ≡ (a && (b && c))
 and-assoc true b c = refl

@@ -12,7 +12,8 @@ use Rattle.ms622424.specs.Ms622424.{Colour, blue, selected, withState}
 use Rattle.ms622424.specs.Ms622424.{answers, readable, buffer, bufferByte, bufferStepped, readRefusals, read}
 use Rattle.ms622424.specs.declared.State.{State}
 use Rattle.ms622424.specs.Ms622424.{addressLow, addressHigh, green}
-use Rattle.ms622424.proofs.Access.{stops, goes-on, lengths-right, ranges-right}
+use Rattle.vocabulary.proofs.Call.{stops, goes-on}
+use Rattle.ms622424.proofs.Access.{lengths-right, ranges-right}
 
 -- a read of the address moves nothing, and neither does the buffer's green read
 pub address-read-keeps : (c : Chip) → (answers addressLow c .left ≡ c) × (answers addressHigh c .left ≡ c)
@@ -33,7 +34,7 @@ module _ (c : Chip) (h : Sound c) where
   unfolding read
   read-does k select e r p w d =
       rw e
-      (d ∙ goes-on (readRefusals k c) c (answers (registerAt k) c)
+      (d ∙ goes-on (readRefusals k c) 0 c (answers (registerAt k) c)
       (lengths-right c h, (ranges-right c h, (ap not r, (p, (w, tt))))))
 
   -- one that is not
@@ -41,7 +42,7 @@ module _ (c : Chip) (h : Sound c) where
       → refusing 3 0 c ≡ read select c
   unfolding read
   read-no-access select e =
-      stops (readRefusals select c) c _ (lentLength ∷ outOfRange ∷ []) noAccess 2 _ refl refl
+      stops (readRefusals select c) 0 c _ (lentLength ∷ outOfRange ∷ []) noAccess 2 _ refl refl
       (lengths-right c h, (ranges-right c h, tt)) (ap not e)
 
   -- the palette outside read mode, and with entries waiting
@@ -49,7 +50,7 @@ module _ (c : Chip) (h : Sound c) where
   unfolding read registerAt readable
   read-outside-mode select e f =
       rw e
-      (stops (readRefusals 2 c) c _ (lentLength ∷ outOfRange ∷ noAccess ∷ noIndex ∷ []) readMode 4 _ refl refl
+      (stops (readRefusals 2 c) 0 c _ (lentLength ∷ outOfRange ∷ noAccess ∷ noIndex ∷ []) readMode 4 _ refl refl
       (lengths-right c h, (ranges-right c h, (refl, (refl, tt)))) (eq-eqb _ 0 f))
 
   pub read-waiting : (select : ℕ) → select ≡ 2 → (c .state .readmode ≡ 0 → ⊥) → (c .state .waiting ≡ 0 → ⊥)
@@ -57,7 +58,7 @@ module _ (c : Chip) (h : Sound c) where
   unfolding read registerAt readable
   read-waiting select e f g =
       rw e
-      (stops (readRefusals 2 c) c _ (lentLength ∷ outOfRange ∷ noAccess ∷ noIndex ∷ readMode ∷ []) stillWaiting 5
+      (stops (readRefusals 2 c) 0 c _ (lentLength ∷ outOfRange ∷ noAccess ∷ noIndex ∷ readMode ∷ []) stillWaiting 5
       _ refl refl
       (lengths-right c h, (ranges-right c h, (refl, (refl, (ne-eqb _ 0 f, tt))))) (ap not (ne-eqb _ 0 g)))
 

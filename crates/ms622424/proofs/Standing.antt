@@ -10,12 +10,12 @@ use lib.ListN.{length, getD, take, drop, replicate}
 use lib.Seq.{getD-take, length-take-le}
 use Rattle.vocabulary.specs.Range.{meets, fails}
 use Rattle.vocabulary.specs.Refusal.{refusalOf, standing}
-use Rattle.vocabulary.proofs.Range.{agree, meets-holds, holds-meets, passes-holds}
+use Rattle.vocabulary.proofs.Range.{agree, meets-holds, holds-meets, passes-holds, both, pair}
 use Rattle.vocabulary.proofs.Refusal.{standing-clear}
 use Rattle.ms622424.specs.declared.State.{State}
 use Rattle.ms622424.specs.Ms622424.{Chip, chip, held, waitingColours, every, inMap, isZero}
 use Rattle.ms622424.specs.Ms622424.{ranges, shortQueue, shortTable, Sound}
-use Rattle.ms622424.proofs.Every.{both, pair, every-at, held-in-map, zeros}
+use Rattle.ms622424.proofs.Every.{every-at, held-in-map, zeros}
 
 -- which refusal the two tests give
 module _ (short outside : Bool) where

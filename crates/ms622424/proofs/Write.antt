@@ -16,7 +16,8 @@ use Rattle.ms622424.specs.Ms622424.{Moves, made, roomMade, latched, pale
 use Rattle.ms622424.specs.Ms622424.{writeRefusals, write}
 use Rattle.vocabulary.proofs.Choice.{picks-first, picks-second}
 use Rattle.ms622424.specs.Ms622424.{addressLow, addressHigh, moves}
-use Rattle.ms622424.proofs.Access.{stops, goes-on, lengths-right}
+use Rattle.vocabulary.proofs.Call.{stops, goes-on}
+use Rattle.ms622424.proofs.Access.{lengths-right}
 
 -- a full queue makes room, whatever the counter; another has it
 pub room-forced : (c : Chip) → c .state .waiting ≡ 64 → roomMade c ≡ moves 4 c
@@ -74,14 +75,14 @@ module _ (byte : ℕ) (small : byte < 256) (c : Chip) (h : Sound c) where
   unfolding write
   write-does k select e w p d =
       rw e
-      (d ∙ goes-on (writeRefusals k byte c) c (written (registerAt k) byte c)
+      (d ∙ goes-on (writeRefusals k byte c) 0 c (written (registerAt k) byte c)
       (lengths-right c h, (inside, (ap not w, (p, tt)))))
 
   -- one that is not
   pub write-no-access : (select : ℕ) → writable (registerAt select) ≡ false → refusing 3 0 c ≡ write select byte c
   unfolding write
   write-no-access select e =
-      stops (writeRefusals select byte c) c _ (lentLength ∷ outOfRange ∷ []) noAccess 2 _ refl refl
+      stops (writeRefusals select byte c) 0 c _ (lentLength ∷ outOfRange ∷ []) noAccess 2 _ refl refl
       (lengths-right c h, (inside, tt)) (ap not e)
 
   -- the palette in read mode
@@ -89,7 +90,7 @@ module _ (byte : ℕ) (small : byte < 256) (c : Chip) (h : Sound c) where
   unfolding write registerAt writable
   write-read-mode select e f =
       rw e
-      (stops (writeRefusals 2 byte c) c _ (lentLength ∷ outOfRange ∷ noAccess ∷ noIndex ∷ []) readMode 4 _ refl refl
+      (stops (writeRefusals 2 byte c) 0 c _ (lentLength ∷ outOfRange ∷ noAccess ∷ noIndex ∷ []) readMode 4 _ refl refl
       (lengths-right c h, (inside, (refl, (refl, tt)))) (eq-eqb _ 1 f))
 
 -- every other select

@@ -18,7 +18,8 @@ use Rattle.ms622424.specs.Ms622424.{entryShown, gunShown}
 use Rattle.ms622424.specs.Ms622424.{pout, showing, pixelRefusals, pixel, pipeOut, syncRefusals, sync}
 use Rattle.ms622424.specs.Ms622424.{Entry, unpacked}
 use Rattle.ms622424.proofs.Waiting.{unpacked-packed}
-use Rattle.ms622424.proofs.Access.{stops, goes-on, lengths-right}
+use Rattle.vocabulary.proofs.Call.{stops, goes-on}
+use Rattle.ms622424.proofs.Access.{lengths-right}
 
 -- ---- the entry that a gun shows
 pub entry-index : (mode word : ℕ) (k : Colour) → mode ≡ 0 → word % 8192 ≡ entryShown mode word k
@@ -36,7 +37,7 @@ module _ (mode word : ℕ) (c : Chip) (h : Sound c) where
   pub pixel-outside : (mode < 4 → word < 2 ^ 24 → ⊥) → refusing 9 0 c ≡ pixel mode word c
   unfolding pixel
   pixel-outside f =
-      stops (pixelRefusals mode word c) c _ (lentLength ∷ []) outOfRange 8 _ refl refl (lengths-right c h, tt)
+      stops (pixelRefusals mode word c) 0 c _ (lentLength ∷ []) outOfRange 8 _ refl refl (lengths-right c h, tt)
       (not-fails _ (λ g. f (g .0) (g .1 .0)))
 
   -- the three bytes at the entries that the guns show
@@ -50,7 +51,7 @@ module _ (mode word : ℕ) (c : Chip) (h : Sound c) where
       (pout (getD (c .map) n 0) (getD (c .map) (3 * g + 1) 0) (getD (c .map) (3 * b + 2) 0)) 0 c)
       (sym (add-zero (3 * r)))
       ∙ (rw (er, eg, eb) refl
-      ∙ goes-on (pixelRefusals mode word c) c _ (lengths-right c h, (holds-passes _ (m, (w, h .2)), tt)))
+      ∙ goes-on (pixelRefusals mode word c) 0 c _ (lengths-right c h, (holds-passes _ (m, (w, h .2)), tt)))
 
 -- ---- the timing signals
 -- the code's masks
@@ -75,14 +76,14 @@ module _ (signals : ℕ) (c : Chip) (l : shortQueue c ≡ false) where
   pub sync-outside : 16 ≤ signals → refusing 9 0 c ≡ sync signals c
   unfolding sync
   sync-outside h =
-      stops (syncRefusals signals c) c _ (lentLength ∷ []) outOfRange 8 _ refl refl (l, tt)
+      stops (syncRefusals signals c) 0 c _ (lentLength ∷ []) outOfRange 8 _ refl refl (l, tt)
       (not-fails _ (λ g. omega arith))
 
   pub sync-does : signals < 16 → Holds (ranges c) → (v : ℕ) → v ≡ pipeOut (c .state .command) signals
       → accepting v 0 c ≡ sync signals c
   unfolding sync
   sync-does h r v e =
-      ap (λ (n : ℕ). accepting n 0 c) e ∙ goes-on (syncRefusals signals c) c _ (l, (holds-passes _ (h, r), tt))
+      ap (λ (n : ℕ). accepting n 0 c) e ∙ goes-on (syncRefusals signals c) 0 c _ (l, (holds-passes _ (h, r), tt))
 
 -- ---- two answers of a pixel that show the same are the same: its three bytes can be told from the value
 same-shown : {n m r x g y b z : ℕ} → n ≡ m → r ≡ x → g ≡ y → b ≡ z

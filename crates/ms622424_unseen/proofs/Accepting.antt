@@ -11,7 +11,8 @@ use Rattle.vocabulary.proofs.Range.{holds-passes}
 use Rattle.ms622424.specs.Ms622424
 use Rattle.ms622424.specs.Ms622424.{Chip, Sound, ranges, palette, initialization, registerAt, writable, readable}
 use Rattle.ms622424.specs.Ms622424.{written, answers, moves, pixelRefusals}
-use Rattle.ms622424.proofs.Access.{goes-on, lengths-right}
+use Rattle.vocabulary.proofs.Call.{goes-on}
+use Rattle.ms622424.proofs.Access.{lengths-right}
 use Rattle.ms622424.proofs.Write.{write-does}
 use Rattle.ms622424.proofs.Read.{read-does}
 use Rattle.ms622424.proofs.Blank.{blank-does}
@@ -49,4 +50,4 @@ pixel-accepted mode word c h hm hw =
     let (_, _, r) = h in
     let inside = holds-passes (below mode 4 ∷ below word (2 ^ 24) ∷ ranges c) (hm, (hw, r)) in
     ap (λ (o : Outcome Chip). o .refusal)
-    (sym (goes-on (pixelRefusals mode word c) c _ (lengths-right c h, (inside, tt))))
+    (sym (goes-on (pixelRefusals mode word c) 0 c _ (lengths-right c h, (inside, tt))))

@@ -10,13 +10,13 @@ use lib.Dec.{ltb}
 use lib.ListN.{length}
 use Rattle.vocabulary.specs.Outcome.{Outcome}
 use Rattle.vocabulary.proofs.Choice.{picks-second}
-use Rattle.vocabulary.proofs.Range.{passes-holds}
+use Rattle.vocabulary.proofs.Range.{passes-holds, both, pair}
 use Rattle.vocabulary.proofs.Outcome.{accepted-does, accepted-none}
 use Rattle.vocabulary.proofs.Refusal.{none-exactly}
 use Rattle.ms622424.specs.Ms622424
 use Rattle.ms622424.specs.Ms622424.{Chip, Entry, waitingColours, every, Sound, keptRanges, places, selected, stepped}
 use Rattle.ms622424.specs.Ms622424.{complete, completed, latched, written, Moves, moves, roomMade, resetRefusals}
-use Rattle.ms622424.proofs.Every.{both, pair, every-append, every-one}
+use Rattle.ms622424.proofs.Every.{every-append, every-one}
 use Rattle.ms622424.proofs.Waiting.{complete-waiting}
 use Rattle.ms622424_unseen.specs.Unseen.{Call, write, reset, outcome, Accepted, left, after}
 use Rattle.ms622424_unseen.proofs.Range.{taken}

@@ -12,12 +12,12 @@ use Rattle.vocabulary.specs.Range.{fails, meets}
 use Rattle.vocabulary.specs.Refusal.{refusalOf}
 use Rattle.vocabulary.specs.Outcome.{Outcome, answeredAt}
 use Rattle.vocabulary.proofs.Choice.{picks-first}
-use Rattle.vocabulary.proofs.Range.{clash}
+use Rattle.vocabulary.proofs.Range.{clash, both, pair}
 use Rattle.ms622424.specs.declared.State.{State}
 use Rattle.ms622424.specs.Ms622424
 use Rattle.ms622424.specs.Ms622424.{Chip, Entry, Colour, entryShown, waitingColours, every, Sound, places, written}
 use Rattle.ms622424.specs.Ms622424.{Moves, moves, roomMade}
-use Rattle.ms622424.proofs.Every.{both, pair, every-append}
+use Rattle.ms622424.proofs.Every.{every-append}
 use Rattle.ms622424.proofs.Waiting.{moves-count}
 use Rattle.ms622424_unseen.specs.Unseen.{Call, write, read, blank, pixel, sync, reset, outcome, Accepted, left}
 use Rattle.ms622424_unseen.specs.Unseen.{after, NoReset, ReadsNoWaiting}

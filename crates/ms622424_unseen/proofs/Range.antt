@@ -11,14 +11,14 @@ use lib.Seq.{drop-set-lt, drop-drop, drop-append-le}
 use Rattle.vocabulary.specs.Range.{below, Holds}
 use Rattle.vocabulary.specs.Refusal.{refusalOf}
 use Rattle.vocabulary.proofs.Choice.{picks-first, picks-second, cases}
-use Rattle.vocabulary.proofs.Range.{passes-holds}
+use Rattle.vocabulary.proofs.Range.{passes-holds, both, pair}
 use Rattle.vocabulary.proofs.Refusal.{none-exactly}
 use Rattle.ms622424.specs.Ms622424
 use Rattle.ms622424.specs.Ms622424.{Chip, chip, port, control, queued, withState, held, waitingColours, every, inMap}
 use Rattle.ms622424.specs.Ms622424.{isZero, Sound, Colour, stepped, bufferStepped, latched, complete, completed}
 use Rattle.ms622424.specs.Ms622424.{packed, Moves, moves, roomMade, places, ranges, shortTable, writeRefusals}
 use Rattle.ms622424.specs.Ms622424.{blankRefusals}
-use Rattle.ms622424.proofs.Every.{both, pair, every-append, every-one}
+use Rattle.ms622424.proofs.Every.{every-append, every-one}
 use Rattle.ms622424.proofs.Places.{all-stored-length}
 use Rattle.ms622424.proofs.Waiting.{complete-waiting, movesOf, moves-least, moves-waiting}
 

@@ -10,12 +10,12 @@ use lib.ListN.{getD, set}
 use lib.Seq.{getD-set-other}
 use Rattle.vocabulary.specs.Refusal.{refusalOf}
 use Rattle.vocabulary.specs.Outcome.{Outcome}
+use Rattle.vocabulary.proofs.Range.{both}
 use Rattle.vocabulary.proofs.Outcome.{accepted-does, accepted-none}
 use Rattle.vocabulary.proofs.Refusal.{none-exactly}
 use Rattle.ms622424.specs.Ms622424
 use Rattle.ms622424.specs.Ms622424.{Chip, Entry, waitingColours, stored, allStored, registerAt, Colour, gun}
 use Rattle.ms622424.specs.Ms622424.{entryShown, gunShown, every, answers, readRefusals}
-use Rattle.ms622424.proofs.Every.{both}
 use Rattle.ms622424_unseen.specs.Unseen.{read, pixel, outcome, Accepted, settled, shown, ReadsNoWaiting}
 use Rattle.ms622424_unseen.specs.Unseen.{component}
 

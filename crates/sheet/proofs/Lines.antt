@@ -10,13 +10,14 @@ use lib.ListN.{length, getD, drop, length-append}
 use lib.Seq.{getD-append-add, getD-at}
 use borrow.Author.Tests.{leb-true, leb-false}
 use Rattle.vocabulary.specs.Choice.{pick}
+use Rattle.vocabulary.proofs.Range.{both}
 use Rattle.vocabulary.proofs.Choice.{cases}
 use Rattle.sheet.specs.declared.Line.the-variants.{Has, Missing}
 use Rattle.sheet.specs.Sheet.{hexDigit, hexValue, hex, number, Key, front, width, takes, lineText, starts, spelt}
 use Rattle.sheet.specs.Sheet.{lineOf}
 use Rattle.sheet.proofs.Digits.{value-digit, value-before, value-low, value-between, value-high, value-behind}
 use Rattle.sheet.proofs.Texts.{length-hex}
-use Rattle.sheet.proofs.Starts.{both, starts-rest, starts-self}
+use Rattle.sheet.proofs.Starts.{starts-rest, starts-self}
 
 -- what w bytes spell, as the code makes it
 module _ (t : List ℕ) (i : ℕ) where

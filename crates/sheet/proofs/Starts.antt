@@ -1,14 +1,14 @@
 -- Whether a text starts with a word, byte by byte. Assumes nothing.
 use Prim.Native.Nat.{ℕ, _+_, _≤_, _<_}
 use mathlib.Core.Path.{_≡_, refl, sym, ap, _∙_}
-use mathlib.Core.Bool.{Bool, true, false, _&&_}
+use mathlib.Core.Bool.{true, false, _&&_}
 use mathlib.Core.List.{List, [], _∷_, _++_}
 use native.Mathlib.Numerals.{add-one}
 use lib.Dec.{eqb}
 use lib.ListN.{length, drop, getD, drop-of-length-le}
 use lib.Seq.{drop-cons}
 use borrow.Author.Tests.{eq-eqb, ne-eqb, eqb-true}
-use Rattle.vocabulary.proofs.Range.{clash}
+use Rattle.vocabulary.proofs.Range.{clash, both}
 use Rattle.sheet.specs.Sheet.{starts}
 
 module _ (p t : List ℕ) (i : ℕ) where
@@ -32,10 +32,6 @@ module _ (p t : List ℕ) (i : ℕ) where
 
       pub starts-differ : (getD p i 0 ≡ getD t i 0 → ⊥) → starts (drop i p) (drop i t) ≡ false
       starts-differ e = step ∙ rw (ne-eqb _ _ e)
-
-pub both : (b c : Bool) → (b && c) ≡ true → (b ≡ true) × (c ≡ true)
-both true c e = (refl, e)
-both false c e = clash (sym e)
 
 -- a text starts with a word exactly where it is the word and a rest
 pub starts-rest : (p t : List ℕ) → starts p t ≡ true → p ++ drop (length p) t ≡ t

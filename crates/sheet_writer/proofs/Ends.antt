@@ -1,6 +1,6 @@
 -- The whole call, by how it ends. Assumes nothing.
 use Prim.Native.Nat.{ℕ, _≤_, _<_}
-use mathlib.Core.Path.{_≡_, refl, sym, _∙_}
+use mathlib.Core.Path.{_≡_, refl, sym}
 use mathlib.Core.Bool.{true, false, _||_}
 use mathlib.Core.List.{List, [], _∷_}
 use native.Mathlib.Omega.{arith}
@@ -8,8 +8,8 @@ use lib.ListN.{length}
 use borrow.Author.Tests.{lt-ltb, le-ltb}
 use Rattle.vocabulary.specs.Refusal.{lentLength, outOfRange, noAccess, noIndex, readMode, stillWaiting}
 use Rattle.vocabulary.specs.Refusal.{overFifteen, malformed, shortBuffer, refusalOf, standing}
-use Rattle.vocabulary.proofs.Refusal.{refusal-is, refusal-none, standing-clear, standing-first}
-use Rattle.vocabulary.proofs.Outcome.{refusal-keeps, refused-as, accepted-does}
+use Rattle.vocabulary.proofs.Refusal.{standing-clear}
+use Rattle.vocabulary.proofs.Call.{tried-first, stops, goes-on}
 use Rattle.hd153108.specs.Hd153108.{Chip, short, outside}
 use Rattle.sheet.specs.declared.Answer.the-variants.{Done, Refused}
 use Rattle.sheet.specs.Sheet.{textOf, pasted, overFifteenIn, writeRefusals, write, outcome}
@@ -23,10 +23,7 @@ module _ (a : Chip) (out : List ℕ) where
   -- 1 and 9, as the chip finds them
   pub refused-standing : {n : ℕ} → n ≡ tried → (n ≡ 0 → ⊥) → outcome (Refused n 0) out ≡ write a out
   unfolding write
-  refused-standing {n} e h =
-      let f : refusalOf (writeRefusals a out) ≡ n =
-      standing-first _ _ (writeRefusals a out) refl (λ z. z) (λ z. h (e ∙ z)) ∙ sym e in
-      sym (rw f (refusal-keeps n 0 out _ h))
+  refused-standing {n} e h = tried-first (writeRefusals a out) 0 out _ _ _ n refl (λ z. z) e h
 
   module _ (clear : tried ≡ 0) where
     stands : (short a ≡ false) × (outside a ≡ false)
@@ -35,9 +32,9 @@ module _ (a : Chip) (out : List ℕ) where
     over : (overFifteenIn (a .colours) || overFifteenIn (a .overlays)) ≡ true → outcome (Refused 2 0) out ≡ write a out
     unfolding write
     over e =
-        sym (refused-as 1 0 out _
-        (refusal-is (writeRefusals a out) (lentLength ∷ outOfRange ∷ noAccess ∷ noIndex ∷ readMode ∷ stillWaiting ∷ [])
-        overFifteen _ refl (stands .0, (stands .1, (refl, (refl, (refl, (refl, tt)))))) e))
+        stops (writeRefusals a out) 0 out _
+        (lentLength ∷ outOfRange ∷ noAccess ∷ noIndex ∷ readMode ∷ stillWaiting ∷ []) overFifteen 1 _ refl refl
+        (stands .0, (stands .1, (refl, (refl, (refl, (refl, tt)))))) e
 
     pub refused-colours : overFifteenIn (a .colours) ≡ true → outcome (Refused 2 0) out ≡ write a out
     refused-colours e = over (rw e refl)
@@ -60,12 +57,11 @@ module _ (a : Chip) (out : List ℕ) where
         unfolding write
         refused-short h =
             let less : length out < length (textOf a) = omega (arith, long) in
-            sym (refused-as 6 0 out _
-            (refusal-is (writeRefusals a out)
+            stops (writeRefusals a out) 0 out _
             (lentLength ∷ outOfRange ∷ noAccess ∷ noIndex ∷ readMode ∷ stillWaiting ∷ overFifteen ∷ malformed ∷ [])
-            shortBuffer _ refl
+            shortBuffer 6 _ refl refl
             (stands .0, (stands .1, (refl, (refl, (refl, (refl, (neither, (refl, tt))))))))
-            (lt-ltb (length out) _ less)))
+            (lt-ltb (length out) _ less)
 
         pub done : {left : List ℕ} → 2134 ≤ length out → left ≡ pasted out 0 (textOf a)
             → outcome (Done 2134) left ≡ write a out
@@ -73,6 +69,5 @@ module _ (a : Chip) (out : List ℕ) where
         done h e =
             let room : length (textOf a) ≤ length out = omega (arith, long) in
             rw (e, sym long)
-            (sym (accepted-does 0 out _
-            (refusal-none (writeRefusals a out)
-            (stands .0, (stands .1, (neither, (le-ltb (length out) _ room, tt)))))))
+            (goes-on (writeRefusals a out) 0 out _
+            (stands .0, (stands .1, (neither, (le-ltb (length out) _ room, tt)))))

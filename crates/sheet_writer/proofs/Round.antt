@@ -10,6 +10,7 @@ use borrow.Author.Tests.{eq-eqb}
 use Rattle.vocabulary.specs.Choice.{pick}
 use Rattle.vocabulary.specs.Refusal.{_when_, lentLength, outOfRange, overFifteen, shortBuffer, refusalOf}
 use Rattle.vocabulary.specs.Outcome.{Outcome, accepting, answered, answeredAt}
+use Rattle.vocabulary.proofs.Range.{neither}
 use Rattle.vocabulary.proofs.Outcome.{accepted-does}
 use Rattle.hd153108.specs.Hd153108.{Chip}
 use Rattle.sheet.specs.declared.Line.the-variants.{Has}
@@ -20,7 +21,7 @@ use Rattle.sheet.proofs.Texts.{width-entry, takes-entry}
 use Rattle.sheet.proofs.Lines.{line-there}
 use Rattle.sheet.proofs.Good.{Lawful}
 use Rattle.sheet_writer.specs.Writer.{Writable}
-use Rattle.sheet_writer.proofs.Values.{neither, low-first, length-values, writable}
+use Rattle.sheet_writer.proofs.Values.{low-first, length-values, writable}
 
 -- lawful lines that are all there, key after key
 back : (vs : List ℕ) (k n : ℕ) → Lawful k (map Has vs)

@@ -1,24 +1,20 @@
 -- The values that the writer lists, and their places. Assumes nothing.
 use Prim.Native.Nat.{ℕ, zero, suc, _+_, _-_, _*_, _≤_, _<_}
 use mathlib.Core.Path.{_≡_, refl, ap, _∙_}
-use mathlib.Core.Bool.{Bool, true, false, _||_}
+use mathlib.Core.Bool.{false}
 use mathlib.Core.List.{List, [], _∷_, _++_}
 use native.Mathlib.Omega.{arith}
 use lib.Dec.{ltb}
 use lib.ListN.{length, getD, length-append, List·getD-append}
 use lib.Seq.{getD-append-add}
 use borrow.Author.Tests.{ltb-false}
-use Rattle.vocabulary.proofs.Range.{clash, passes-holds}
+use Rattle.vocabulary.proofs.Range.{passes-holds, neither}
 use Rattle.hd153108.specs.Hd153108.{Chip, short, outside}
 use Rattle.sheet.specs.Sheet.{keys, coloursIn, values, textOf, overFifteenIn}
 use Rattle.sheet.proofs.Size.{length-all}
 use Rattle.sheet_writer.specs.Writer.{Writable}
 
 -- no byte over 15
-pub neither : (b c : Bool) → (b || c) ≡ false → (b ≡ false) × (c ≡ false)
-neither true c e = clash e
-neither false c e = (refl, e)
-
 pub low-first : (x : ℕ) (t : List ℕ) → overFifteenIn (x ∷ t) ≡ false → (x < 16) × (overFifteenIn t ≡ false)
 unfolding overFifteenIn
 low-first x t e = let h = neither (ltb 15 x) _ e in let l = ltb-false 15 x (h .0) in (omega arith, h .1)

@@ -7,7 +7,8 @@ use Rattle.ms622424.specs.declared.Shown.{Shown}
 use Rattle.ms622424.specs.Ms622424.{Chip, chip, Sound, ranges, shortTable, showing, red, green, blue, pixelByte}
 use Rattle.ms622424.specs.Ms622424.{pixelRefusals, pixel}
 use Rattle.ms622424.proofs.Standing.{sound}
-use Rattle.ms622424.proofs.Access.{outside-too, tried-first}
+use Rattle.vocabulary.proofs.Range.{fails-right}
+use Rattle.vocabulary.proofs.Call.{tried-first}
 use Rattle.ms622424_pixel.proofs.Outputs.{pixel-outside, pixel-does}
 use borrow.Author.Needs.{needs}
 use Rattle.ms622424_pixel.proofs.zk_b_pixel.Statement.{statement}
@@ -38,9 +39,9 @@ returns c =
     let start = c .before .before .before .before .before in
     let d = given start in
     same start (c .refused .ensures)
-    ∙ tried-first (pixelRefusals (start .args .mode) (start .args .word) d) d _ (shortTable d) (fails (ranges d)) _
+    ∙ tried-first (pixelRefusals (start .args .mode) (start .args .word) d) 0 d _ (shortTable d) (fails (ranges d)) _
     refl
-    (outside-too (below (start .args .mode) 4 ∷ below (start .args .word) (2 ^ 24) ∷ []) (ranges d))
+    (fails-right (below (start .args .mode) 4 ∷ below (start .args .word) (2 ^ 24) ∷ []) (ranges d))
     (c .before .before .standing-tables .ensures (d .map) refl) (c .before .if1 .taken)
 
 refused-requires-2 : tie.Need-refused-requires-2

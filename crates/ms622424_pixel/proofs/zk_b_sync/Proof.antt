@@ -4,10 +4,11 @@ use mathlib.Core.Bool.{false}
 use Prim.Native.Nat.{ℕ}
 use native.Mathlib.Omega.{arith}
 use Rattle.vocabulary.specs.Range.{below, fails, Holds}
-use Rattle.vocabulary.proofs.Range.{passes-holds}
+use Rattle.vocabulary.proofs.Range.{passes-holds, fails-right}
 use Rattle.vocabulary.proofs.Refusal.{standing-clear}
 use Rattle.ms622424.specs.Ms622424.{Chip, chip, ranges, shortQueue, syncRefusals, sync}
-use Rattle.ms622424.proofs.Access.{same-answer, outside-too, tried-first}
+use Rattle.vocabulary.proofs.Call.{tried-first}
+use Rattle.ms622424.proofs.Access.{same-answer}
 use Rattle.ms622424_pixel.proofs.Outputs.{sync-outside, sync-does}
 use borrow.Author.Needs.{needs}
 use Rattle.ms622424_pixel.proofs.zk_b_sync.Statement.{statement}
@@ -36,8 +37,8 @@ returns c m =
     let start = c .before .before .before .before in
     let d = given start m in
     same-answer _ m (c .refused .ensures)
-    ∙ tried-first (syncRefusals (start .args .signals) d) d _ (shortQueue d) (fails (ranges d)) _ refl
-    (outside-too (below (start .args .signals) 16 ∷ []) (ranges d)) (c .before .before .standing-queue .ensures m)
+    ∙ tried-first (syncRefusals (start .args .signals) d) 0 d _ (shortQueue d) (fails (ranges d)) _ refl
+    (fails-right (below (start .args .signals) 16 ∷ []) (ranges d)) (c .before .before .standing-queue .ensures m)
     (c .before .if1 .taken)
 
 refused-requires-2 : tie.Need-refused-requires-2

@@ -10,7 +10,8 @@ use Rattle.ms622424.specs.Ms622424.{Chip, chip, Sound, ranges, shortTable, acce
 use Rattle.ms622424.specs.Ms622424.{red, green, selected, stepped, readable, readRefusals, answers, read}
 use Rattle.ms622424.specs.Ms622424.{bufferByte, bufferStepped}
 use Rattle.ms622424.proofs.Standing.{sound}
-use Rattle.ms622424.proofs.Access.{same-answer, tried-first}
+use Rattle.vocabulary.proofs.Call.{tried-first}
+use Rattle.ms622424.proofs.Access.{same-answer}
 use Rattle.ms622424.proofs.Read.{read-does, read-no-access, read-outside-mode}
 use Rattle.ms622424.proofs.Read.{read-waiting, read-buffer}
 use Rattle.ms622424.proofs.Access.{is-red, is-green, is-blue}
@@ -49,7 +50,7 @@ returns c =
     let start = c .before .before .before .before .before in
     let d = given start in
     same-answer _ _ (c .refused .ensures)
-    ∙ tried-first (readRefusals (start .args .select) d) d _ (shortTable d) (fails (ranges d)) _ refl (λ e. e)
+    ∙ tried-first (readRefusals (start .args .select) d) 0 d _ (shortTable d) (fails (ranges d)) _ refl (λ e. e)
     (c .before .before .standing-tables .ensures (d .map) refl) (c .before .if1 .taken)
 
 cast-accepted : tie.Need-cast-accepted

@@ -5,7 +5,9 @@ use Rattle.vocabulary.specs.Range.{below, fails}
 use Rattle.ms622424.specs.declared.Answer.{Answer}
 use Rattle.ms622424.specs.Ms622424.{Chip, chip, Sound, ranges, shortTable, outcome, blankRefusals, blank}
 use Rattle.ms622424.proofs.Standing.{sound}
-use Rattle.ms622424.proofs.Access.{same-answer, outside-too, tried-first}
+use Rattle.vocabulary.proofs.Range.{fails-right}
+use Rattle.vocabulary.proofs.Call.{tried-first}
+use Rattle.ms622424.proofs.Access.{same-answer}
 use Rattle.ms622424.proofs.Blank.{blank-too-many, blank-does}
 use borrow.Author.Needs.{needs}
 use Rattle.ms622424_write.proofs.zk_b_blank.Statement.{statement}
@@ -35,8 +37,8 @@ returns c =
     let start = c .before .before .before .before .before .before in
     let d = given start in
     same-answer _ _ (c .refused .ensures)
-    ∙ tried-first (blankRefusals (start .args .slots) d) d _ (shortTable d) (fails (ranges d)) _ refl
-    (outside-too (below (start .args .slots) 65536 ∷ []) (ranges d))
+    ∙ tried-first (blankRefusals (start .args .slots) d) 0 d _ (shortTable d) (fails (ranges d)) _ refl
+    (fails-right (below (start .args .slots) 65536 ∷ []) (ranges d))
     (c .before .before .standing-tables .ensures (d .map) refl)
     (c .before .if1 .taken)
 

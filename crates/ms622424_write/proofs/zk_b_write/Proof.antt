@@ -9,7 +9,9 @@ use Rattle.vocabulary.specs.Range.{below, fails}
 use Rattle.ms622424.specs.Ms622424.{Chip, chip, Sound, ranges, shortTable, registerAt, isPalette}
 use Rattle.ms622424.specs.Ms622424.{writable, writeRefusals, written, write}
 use Rattle.ms622424.proofs.Standing.{sound}
-use Rattle.ms622424.proofs.Access.{same-answer, outside-too, tried-first}
+use Rattle.vocabulary.proofs.Range.{fails-right}
+use Rattle.vocabulary.proofs.Call.{tried-first}
+use Rattle.ms622424.proofs.Access.{same-answer}
 use Rattle.ms622424.proofs.Write.{write-does, write-no-access}
 use Rattle.ms622424.proofs.Write.{write-read-mode, not-written}
 use borrow.Author.Needs.{needs}
@@ -50,9 +52,9 @@ returns c =
     let start = c .before .before .before .before .before .before in
     let d = given start in
     same-answer _ _ (c .refused .ensures)
-    ∙ tried-first (writeRefusals (start .args .select) (start .args .byte) d) d _ (shortTable d) (fails (ranges d))
+    ∙ tried-first (writeRefusals (start .args .select) (start .args .byte) d) 0 d _ (shortTable d) (fails (ranges d))
     _ refl
-    (outside-too (below (start .args .byte) 256 ∷ []) (ranges d))
+    (fails-right (below (start .args .byte) 256 ∷ []) (ranges d))
     (c .before .before .standing-tables .ensures (d .map) refl)
     (c .before .if1 .taken)
 
