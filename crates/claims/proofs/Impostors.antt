@@ -1,11 +1,11 @@
 -- What the statements rule out of chip B's queue, beside the edits that must fail. Assumes nothing.
-use Prim.Native.Nat.{ℕ, suc, _-_, _<_, _≤_, min}
-use mathlib.Core.Path.{_≡_, refl, sym, ap, _∙_}
+use Prim.Native.Nat.{ℕ, suc, _-_, _<_, _≤_}
+use mathlib.Core.Path.{_≡_, refl, ap, _∙_}
 use native.Mathlib.Omega.{arith}
 use Rattle.vocabulary.specs.Outcome.{Outcome}
 use Rattle.ms622424.specs.Ms622424
-use Rattle.ms622424.specs.Ms622424.{Chip, Sound, Colour, selected, stepped, complete, Moves, latched, withState, written}
-use Rattle.ms622424.specs.Ms622424.{palette, write, blank}
+use Rattle.ms622424.specs.Ms622424.{Chip, Sound, Colour, selected, complete, Moves, latched, written}
+use Rattle.ms622424.specs.Ms622424.{write, blank}
 use Rattle.ms622424.proofs.Blank.{blank-count, blank-shrinks}
 use Rattle.ms622424.proofs.Write.{room-left}
 use Rattle.ms622424_unseen.specs.Unseen.{outcome}

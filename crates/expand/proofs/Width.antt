@@ -1,12 +1,12 @@
 -- What the expanders share, over the width. Assumes nothing.
-use Prim.Native.Nat.{ℕ, zero, _+_, _*_, _/_, _-_, _^_, _≤_, _<_}
+use Prim.Native.Nat.{ℕ, _+_, _*_, _/_, _-_, _^_, _≤_, _<_}
 use mathlib.Core.Path.{_≡_, refl, sym, ap, _∙_}
 use mathlib.Core.List.{[], _∷_}
 use native.Mathlib.Nat.{mul-suc, mul-le-mul-left, div-lt-iff-lt-mul, mul-add-div, div-eq-of-lt}
 use native.Mathlib.Omega.{arith}
 use lib.Pow.{pow-add, pow-pos}
 use Rattle.vocabulary.specs.Refusal.{outOfRange, lentLength}
-use Rattle.vocabulary.specs.Outcome.{Outcome, accepting, refusing}
+use Rattle.vocabulary.specs.Outcome.{accepting, refusing}
 use Rattle.vocabulary.proofs.Range.{holds-passes, not-fails}
 use Rattle.vocabulary.proofs.Refusal.{refusal-is, refusal-none}
 use Rattle.vocabulary.proofs.Outcome.{refused-as, accepted-does}

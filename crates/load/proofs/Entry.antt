@@ -4,7 +4,7 @@ use mathlib.Core.Path.{_≡_, refl, _∙_}
 use mathlib.Core.List.{[], _∷_}
 use mathlib.Core.Bool.{Bool, true, false}
 use native.Mathlib.Omega.{arith}
-use Rattle.hd153108.specs.Hd153108.{Chip, Table, colour, overlay, registerAt, size, tableOf, withTable, withState}
+use Rattle.hd153108.specs.Hd153108.{Chip, Table, colour, overlay, registerAt, size, tableOf, withTable}
 use Rattle.hd153108.specs.Hd153108.{entryAt, next, port, put, dataWrite, written}
 use Rattle.hd153108.proofs.Data.{at, red-write, green-write, blue-write}
 use Rattle.sheet.specs.declared.Line.the-variants.{Has}

@@ -9,13 +9,12 @@ use lib.ListN.{length, getD}
 use borrow.Author.Tests.{lt-ltb, le-ltb, ltb-true, ltb-false, eq-eqb, ne-eqb, eqb-true}
 use Rattle.vocabulary.specs.Choice.{pick}
 use Rattle.vocabulary.proofs.Choice.{cases, picks-first}
-use Rattle.vocabulary.proofs.Range.{clash}
+use Rattle.vocabulary.proofs.Range.{clash, both}
 use Rattle.sheet.specs.declared.Line.{Line}
 use Rattle.sheet.specs.declared.Line.the-variants.{Has, Missing}
 use Rattle.sheet.specs.Sheet.{hexDigit, hexValue, hex, keys, keyAt, front, lineText, starts, lineOf}
 use Rattle.sheet.proofs.Digits.{value-digit}
 use Rattle.sheet.proofs.Texts.{key-o, key-c}
-use Rattle.sheet.proofs.Starts.{both}
 use Rattle.sheet.proofs.Lines.{line-starts}
 use Rattle.sheet_reader.specs.Reader.{named}
 
