@@ -1,4 +1,5 @@
 pub mod Every
+pub mod Gathered
 pub mod Places
 pub mod Standing
 pub mod Waiting

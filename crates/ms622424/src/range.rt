@@ -26,14 +26,19 @@ fn gathered(queue: &[u64], from: usize, to: usize) -> u64
     bits
 }
 
-// Every waiting entry has an address of the map, and every unused place is zero.
+// Every waiting entry has an address of the map, and every unused place is zero. All places are gathered first, a fixed
+// number that the compiler unrolls, and the unused ones again only where something waits.
 fn queue_in_range(queue: &[u64], waiting: u8) -> bool
     requires { ⌜ (length (now queue) ≡ 64) × (waiting ≤ 64) ⌝ }
     ensures { λ r. ⌜ r ≡ (every inMap (held (take waiting (now (queue .entry))))
         && every isZero (drop waiting (now (queue .entry)))) ⌝ }
 {
     let n = waiting as usize;
-    if 137438953472 <= gathered(queue, 0, n) {
+    let all = gathered(queue, 0, 64);
+    if all == 0 {
+        return true;
+    }
+    if 137438953472 <= all {
         return false;
     }
     gathered(queue, n, 64) == 0

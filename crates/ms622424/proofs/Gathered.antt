@@ -1,0 +1,64 @@
+-- Laws of a queue's range, from the bits gathered over all its places. Assumes nothing.
+use Prim.Native.Nat.{ℕ, _-_, _^_, _≤_, _<_}
+use mathlib.Core.Path.{_≡_, refl, sym, ap, _∙_}
+use mathlib.Core.Bool.{Bool, true, false, _&&_}
+use mathlib.Core.List.{List, [], _∷_}
+use native.Mathlib.Omega.{arith}
+use borrow.Author.Tests.{lt-ltb, le-ltb, eqb-true}
+use lib.Dec.{ltb, eqb}
+use lib.ListN.{length, take, drop, take-append-drop}
+use lib.Seq.{take-all}
+use Rattle.vocabulary.proofs.Range.{agree}
+use Rattle.ms622424.specs.Ms622424.{every, held, inMap, isZero}
+use Rattle.ms622424.proofs.Every.{both, pair, every-append, every-same}
+use Rattle.ms622424.proofs.Every.{held-in-map, zero-below, unused-bits}
+
+-- the first n places wait and have an address of the map, the others are zero
+abbrev pub inRange : ℕ → List ℕ → Bool
+inRange n l = every inMap (held (take n l)) && every isZero (drop n l)
+
+abbrev pub low : List ℕ → Bool
+low l = every (λ (n : ℕ). ltb n (2 ^ 37)) l
+
+zeros-low : (l : List ℕ) → every isZero l ≡ true → low l ≡ true
+unfolding every
+zeros-low [] e = refl
+zeros-low (x ∷ l) e =
+    let t = both (eqb x 0) (every isZero l) e in
+    let z = eqb-true x 0 (t .0) in
+    pair (lt-ltb x (2 ^ 37) (omega arith)) (zeros-low l (t .1))
+
+every-parts : (p : ℕ → Bool) (n : ℕ) (l : List ℕ) → every p l ≡ (every p (take n l) && every p (drop n l))
+every-parts p n l = ap (every p) (sym (take-append-drop n l)) ∙ every-append p (take n l) (drop n l)
+
+-- unused places that are zero are low too: all are low, and the unused ones zero
+pub all-low : (n : ℕ) (l : List ℕ) → (low l && every isZero (drop n l)) ≡ inRange n l
+all-low n l =
+    agree _ _
+    (λ e.
+    let t = both (low l) _ e in
+    pair (held-in-map (take n l) ∙ both (low (take n l)) _ (sym (every-parts _ n l) ∙ t .0) .0) (t .1))
+    (λ e.
+    let t = both (every inMap (held (take n l))) _ e in
+    pair (every-parts _ n l ∙ pair (sym (held-in-map (take n l)) ∙ t .0) (zeros-low (drop n l) (t .1))) (t .1))
+
+-- what the bits gathered from a whole queue decide
+module _ (q : List ℕ) (n bits : ℕ) (size : length q ≡ 64)
+    (gathered : (k : ℕ) → ltb bits (2 ^ k) ≡ every (λ (x : ℕ). ltb x (2 ^ k)) (take (64 - 0) (drop 0 q))) where
+  all-bits : (k : ℕ) → ltb bits (2 ^ k) ≡ every (λ (x : ℕ). ltb x (2 ^ k)) q
+  all-bits k = gathered k ∙ ap (every (λ (x : ℕ). ltb x (2 ^ k))) (take-all 64 q (omega arith))
+
+  pub no-bits : bits ≡ 0 → true ≡ inRange n q
+  no-bits e =
+      let z : every isZero q ≡ true = every-same isZero _ zero-below q ∙ sym (all-bits 0) ∙ lt-ltb bits 1 (omega arith) in
+      let t = both (every isZero (take n q)) _ (sym (every-parts isZero n q) ∙ z) in
+      sym (sym (all-low n q) ∙ pair (zeros-low q z) (t .1))
+
+  pub high-bits : 2 ^ 37 ≤ bits → false ≡ inRange n q
+  high-bits e = let no : low q ≡ false = sym (all-bits 37) ∙ le-ltb bits (2 ^ 37) e in rw no at (all-low n q)
+
+  pub low-bits : bits < 2 ^ 37 → (rest : ℕ)
+      → ltb rest (2 ^ 0) ≡ every (λ (x : ℕ). ltb x (2 ^ 0)) (take (64 - n) (drop n q)) → eqb rest 0 ≡ inRange n q
+  low-bits e rest r =
+      let yes : low q ≡ true = sym (all-bits 37) ∙ lt-ltb bits (2 ^ 37) e in
+      unused-bits q n rest 64 size r ∙ rw yes at (all-low n q)
