@@ -27,7 +27,7 @@ fn gathered(queue: &[u64], from: usize, to: usize) -> u64
 }
 
 // Every waiting entry has an address of the map, and every unused place is zero. All places are gathered first, a fixed
-// number that the compiler unrolls, and the unused ones again only where something waits.
+// number that the compiler unrolls, and the unused ones again only where a place is not zero.
 fn queue_in_range(queue: &[u64], waiting: u8) -> bool
     requires { ⌜ (length (now queue) ≡ 64) × (waiting ≤ 64) ⌝ }
     ensures { λ r. ⌜ r ≡ (every inMap (held (take waiting (now (queue .entry))))
