@@ -41,11 +41,8 @@ pub fn told(a: Answer) -> u64
 pub fn digit(x: u16) -> u8
     ensures { λ r. ⌜ r ≡ hexDigit (x % 16) ⌝ }
 {
-    let d = x % 16;
-    if d < 10 {
-        return 48 + d as u8;
-    }
-    87 + d as u8
+    let digits = b"0123456789abcdef";
+    digits[(x % 16) as usize]
 }
 
 fn wide(x: u8) -> u16
@@ -221,11 +218,11 @@ pub fn written(k: u16, v: u16) -> Text
 fn begins(text: &[u8], word: &[u8]) -> bool
     ensures { λ r. ⌜ r ≡ starts (now (word .entry)) (now (text .entry)) ⌝ }
 {
+    if text.len() < word.len() {
+        return false;
+    }
     let mut i: usize = 0;
     while i < word.len() {
-        if text.len() <= i {
-            return false;
-        }
         if word[i] != text[i] {
             return false;
         }

@@ -8,18 +8,17 @@ use Rattle.sheet.proofs.begins.Statement.{statement}
 use Rattle.sheet.proofs.begins.Tie as tie
 
 abbrev Inv-loop : tie.InvT-loop
-Inv-loop text word i₀ i = (i ≤ length word) × (starts (drop i word) (drop i text) ≡ starts word text)
+Inv-loop text word i₀ i =
+    (i ≤ length word) × (length word ≤ length text) × (starts (drop i word) (drop i text) ≡ starts word text)
 
 abbrev μ-loop : tie.MeasureT-loop
 μ-loop text word i₀ i = length word - i
 
-loop-holds : tie.Need-loop-holds Inv-loop μ-loop
-loop-holds c = (search needs, refl)
-
 returns : tie.Need-returns Inv-loop μ-loop
-returns c =
-    sym (starts-short (c .before .before .before .args .word .now) (c .before .before .before .args .text .now)
-    (c .before .before .loop .i) (search needs) (search needs)) ∙ c .before .before .loop .inv .1
+returns c = let a = c .before .args in sym (starts-short (a .word .now) (a .text .now) (c .if1 .taken))
+
+loop-holds : tie.Need-loop-holds Inv-loop μ-loop
+loop-holds c = (search needs, search needs, refl)
 
 shared-slice-read-if2 : tie.Need-shared-slice-read-if2 Inv-loop μ-loop
 shared-slice-read-if2 c = search needs
@@ -29,11 +28,11 @@ shared-slice-read-if2-2 c = search needs
 
 returns-2 : tie.Need-returns-2 Inv-loop μ-loop
 returns-2 c =
-    let l = c .before .before .before .before .before .loop in
+    let l = c .before .before .before .before .loop in
     sym (starts-differ (c .before .before .before .before .before .before .args .word .now)
     (c .before .before .before .before .before .before .args .text .now) (l .i) (search needs) (search needs)
     (c .if2 .taken))
-    ∙ l .inv .1
+    ∙ l .inv .2
 
 add-i : tie.Need-add-i Inv-loop μ-loop
 add-i c = search needs
@@ -43,18 +42,19 @@ loop-less c = search needs
 
 loop-again : tie.Need-loop-again Inv-loop μ-loop
 loop-again c =
-    let l = c .before .before .before .before .before .loop in (
+    let l = c .before .before .before .before .loop in (
+      search needs,
       search needs,
       sym (starts-same (c .before .before .before .before .before .before .args .word .now)
           (c .before .before .before .before .before .before .args .text .now) (l .i) (search needs) (search needs)
           (c .if2 .left))
-          ∙ l .inv .1,
+          ∙ l .inv .2,
     )
 
 returns-3 : tie.Need-returns-3 Inv-loop μ-loop
 returns-3 c =
-    sym (starts-all (c .before .before .args .word .now) (c .before .before .args .text .now) (c .before .loop .i)
-    (search needs)) ∙ c .before .loop .inv .1
+    sym (starts-all (c .before .before .before .args .word .now) (c .before .before .before .args .text .now) (c .before .loop .i)
+    (search needs)) ∙ c .before .loop .inv .2
 
 pub begins-spec : {M : Type 1} → statement M
 begins-spec =
@@ -62,8 +62,8 @@ begins-spec =
     (tie.spec
     Inv-loop
     μ-loop
-    loop-holds
     returns
+    loop-holds
     shared-slice-read-if2
     shared-slice-read-if2-2
     returns-2

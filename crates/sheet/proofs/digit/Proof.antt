@@ -1,5 +1,8 @@
-use mathlib.Core.Path.{sym}
-use Rattle.sheet.proofs.Digits.{digit-low, digit-high}
+use Prim.Native.Nat.{_%_}
+use native.Mathlib.Omega.{arith}
+use Rattle.vocabulary.specs.Choice.{pick}
+use Rattle.vocabulary.proofs.Table.{table-rule}
+use Rattle.sheet.specs.Sheet.{hexDigit}
 use borrow.Author.Needs.{needs}
 use Rattle.sheet.proofs.digit.Statement.{statement}
 use Rattle.sheet.proofs.digit.Tie as tie
@@ -7,21 +10,12 @@ use Rattle.sheet.proofs.digit.Tie as tie
 cast-result : tie.Need-cast-result
 cast-result c = search needs
 
-add-result : tie.Need-add-result
-add-result c = search needs
+element-copy-out-result : tie.Need-element-copy-out-result
+element-copy-out-result c = search needs
 
 returns : tie.Need-returns
-returns c = sym (digit-low _ (c .if1 .taken))
-
-cast-result-2 : tie.Need-cast-result-2
-cast-result-2 c = search needs
-
-add-result-2 : tie.Need-add-result-2
-add-result-2 c = search needs
-
-returns-2 : tie.Need-returns-2
-returns-2 c = sym (digit-high _ (c .if1 .left))
+unfolding hexDigit pick
+returns c = table-rule hexDigit 16 (c .before .before .args .x % 16) (omega arith)
 
 pub digit-spec : {M : Type 1} → statement M
-digit-spec =
-    tie.close (tie.spec cast-result add-result returns cast-result-2 add-result-2 returns-2)
+digit-spec = tie.close (tie.spec cast-result element-copy-out-result returns)
