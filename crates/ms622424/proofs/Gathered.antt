@@ -8,9 +8,9 @@ use borrow.Author.Tests.{lt-ltb, le-ltb, eqb-true}
 use lib.Dec.{ltb, eqb}
 use lib.ListN.{length, take, drop, take-append-drop}
 use lib.Seq.{take-all}
-use Rattle.vocabulary.proofs.Range.{agree}
+use Rattle.vocabulary.proofs.Range.{agree, both, pair}
 use Rattle.ms622424.specs.Ms622424.{every, held, inMap, isZero}
-use Rattle.ms622424.proofs.Every.{both, pair, every-append, every-same}
+use Rattle.ms622424.proofs.Every.{every-append, every-same}
 use Rattle.ms622424.proofs.Every.{held-in-map, zero-below, unused-bits}
 
 -- the first n places wait and have an address of the map, the others are zero
