@@ -102,15 +102,10 @@ zeros (n ∷ l) e =
     let g = zeros l (t .1) in
     rw f (ap (λ (k : List ℕ). 0 ∷ k) g)
 
--- the bits gathered from a queue's first w places, and from the rest of its n
-module _ (q : List ℕ) (w bits : ℕ) where
-  pub waiting-bits : ltb bits (2 ^ 37) ≡ every (λ (n : ℕ). ltb n (2 ^ 37)) (take (w - 0) (drop 0 q))
-      → ltb bits (2 ^ 37) ≡ every inMap (held (take w q))
-  waiting-bits e = let z : w - 0 ≡ w = omega arith in rw z at e ∙ sym (held-in-map (take w q))
-
-  pub unused-bits : (n : ℕ) → length q ≡ n
-      → ltb bits (2 ^ 0) ≡ every (λ (n : ℕ). ltb n (2 ^ 0)) (take (n - w) (drop w q))
-      → eqb bits 0 ≡ every isZero (drop w q)
-  unused-bits n l e =
-      let t = take-all (n - w) (drop w q) (simp length-drop (omega arith)) in
-      zero-below bits ∙ (rw t at e ∙ sym (every-same isZero (λ (x : ℕ). ltb x (2 ^ 0)) zero-below (drop w q)))
+-- the bits gathered from a queue's places behind the first w
+pub unused-bits : (q : List ℕ) (w bits n : ℕ) → length q ≡ n
+    → ltb bits (2 ^ 0) ≡ every (λ (x : ℕ). ltb x (2 ^ 0)) (take (n - w) (drop w q))
+    → eqb bits 0 ≡ every isZero (drop w q)
+unused-bits q w bits n l e =
+    let t = take-all (n - w) (drop w q) (simp length-drop (omega arith)) in
+    zero-below bits ∙ (rw t at e ∙ sym (every-same isZero (λ (x : ℕ). ltb x (2 ^ 0)) zero-below (drop w q)))
