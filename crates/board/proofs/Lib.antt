@@ -1,2 +1,2 @@
-pub mod Lines
-pub mod Other
+pub mod Steps
+pub mod Resets

@@ -1,22 +1,27 @@
--- The number that digits spell, in two parts. Assumes nothing.
-use Prim.Native.Nat.{ℕ, zero, suc, _+_, _*_, _^_}
-use mathlib.Core.Path.{_≡_, refl, sym, ap, _∙_}
+-- The number that digits spell, one digit after another. Assumes nothing.
+use Prim.Native.Nat.{ℕ, suc, _+_, _*_, _^_, _<_, _≤_}
+use mathlib.Core.Path.{_≡_, refl}
 use mathlib.Core.List.{List}
-use native.Mathlib.Nat.{mul-assoc, add-zero, add-suc, pow-suc}
+use native.Mathlib.Nat.{pow-suc, pow-le-pow-right}
+use native.Mathlib.Numerals.{add-one}
 use native.Mathlib.Omega.{arith}
 use lib.ListN.{getD}
 use Rattle.sheet.specs.Sheet.{hexValue, number}
 
-pub number-one : (i : ℕ) (t : List ℕ) → number 1 i t ≡ hexValue (getD t i 0)
+pub number-none : (i : ℕ) (t : List ℕ) → 0 ≡ number 0 i t
 unfolding number
-number-one i t = rw (add-zero i) (omega arith)
+number-none i t = refl
 
--- v digits, and w behind them
-pub number-joins : (v w i : ℕ) (t : List ℕ) → number (v + w) i t ≡ number v i t * 16 ^ w + number w (i + v) t
+pub number-more : (w i : ℕ) (t : List ℕ) → number (w + 1) i t ≡ number w i t * 16 + hexValue (getD t (i + w) 0)
 unfolding number
-number-joins v zero i t = rw (add-zero v) (omega arith)
-number-joins v (suc w) i t =
-    let place : i + (v + w) ≡ i + v + w = omega arith in
-    let high : number v i t * 16 ^ suc w ≡ number v i t * 16 ^ w * 16 = rw (pow-suc 16 w) (sym (mul-assoc (number v i
-    t) (16 ^ w) 16)) in
-    rw (add-suc v w, place, number-joins v w i t) (omega arith)
+number-more w i t = rw add-one
+
+-- w digits stay below 16^w, and eight of them fit 32 bits
+module _ (v w d : ℕ) (hv : v < 16 ^ w) (hd : d < 16) where
+  pub digits-below : v * 16 + d < 16 ^ (w + 1)
+  digits-below = rw (add-one, pow-suc 16 w) (omega arith)
+
+  pub digits-fit : w < 8 → v * 16 + d < 4294967296
+  digits-fit h =
+      let most : 16 ^ (w + 1) ≤ 16 ^ 8 = pow-le-pow-right {n = 16} (omega arith) {i = w + 1} {j = 8} (omega arith) in
+      omega (arith, digits-below)

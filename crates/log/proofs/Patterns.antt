@@ -10,8 +10,11 @@ use lib.Seq.{drop-cons}
 use lib.Dec.{eqb, leb}
 use borrow.Author.Tests.{lt-ltb, le-ltb, le-leb, lt-leb, eq-eqb, ne-eqb}
 use Rattle.vocabulary.proofs.Choice.{picks-first, picks-second}
-use Rattle.log.specs.declared.Line.the-variants.{Expand, PixelA, Bad}
-use Rattle.log.specs.Log.{isDigit, stands, fits, expands, shows}
+use Rattle.log.specs.declared.Line.{Line}
+use Rattle.log.specs.declared.Line.the-variants.{To, Expand, Bad}
+use Rattle.log.specs.declared.Call.the-variants.{OfA}
+use Rattle.log.specs.declared.CallA.the-variants.{Pixel}
+use Rattle.log.specs.Log.{isDigit, stands, fits, expands, shows, Form, said}
 
 nothing : (b : Bool) → (b && false) ≡ false
 nothing true = refl
@@ -87,10 +90,24 @@ module _ (w v : ℕ) where
     expands-not e = picks-second _ _ (ne-eqb w 6 h) ∙ picks-second _ _ (ne-eqb w 8 e)
 
 module _ (e o b : ℕ) where
-  pub shows-it : e < 2 → shows e o b ≡ PixelA e o b
+  pub shows-it : e < 2 → shows e o b ≡ To (OfA (Pixel e o b))
   unfolding shows
   shows-it h = picks-first _ _ (lt-ltb e 2 h)
 
   pub shows-not : 2 ≤ e → shows e o b ≡ Bad
   unfolding shows
   shows-not h = picks-second _ _ (le-ltb e 2 h)
+
+pub said-none : (t : List ℕ) → said [] t ≡ Bad
+unfolding said
+said-none t = refl
+
+-- the first form of a list: a line that has it, and one that has not, whatever function tested it
+module _ (f : Form) (fs : List Form) (t : List ℕ) {b : Bool} (e : b ≡ fits (f .pattern) t) where
+  pub said-first : b ≡ true → said (f ∷ fs) t ≡ f .says t
+  unfolding said
+  said-first h = picks-first _ _ (sym e ∙ h)
+
+  pub said-next : b ≡ false → said (f ∷ fs) t ≡ said fs t
+  unfolding said
+  said-next h = picks-second _ _ (sym e ∙ h)

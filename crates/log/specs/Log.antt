@@ -2,13 +2,16 @@
 -- string in which '#' stands for one hex digit, lower case, and any other byte for itself.
 use Prim.Native.Nat.{ℕ}
 use mathlib.Core.Bool.{Bool, true, false, _&&_, _||_}
-use mathlib.Core.List.{List, [], _∷_}
+use mathlib.Core.List.{List, [], _∷_, _++_}
 use lib.Dec.{eqb, ltb, leb}
 use Rattle.vocabulary.specs.Choice.{pick}
 use Rattle.sheet.specs.Sheet.{number}
 use Rattle.log.specs.declared.Line.{Line}
-use Rattle.log.specs.declared.Line.the-variants.{ChooseA, ChooseB, ChooseC, Write, Read, Reset, Expand}
-use Rattle.log.specs.declared.Line.the-variants.{Tick, PixelA, Sheet, PixelB, Blank, Sync, Bad}
+use Rattle.log.specs.declared.Line.the-variants.{To, Choose, Expand, Sheet, Bad}
+use Rattle.log.specs.declared.Chip.the-variants.{ChipA, ChipB, ChipC}
+use Rattle.log.specs.declared.Call.the-variants.{Write, Read, Reset, OfA, OfB}
+use Rattle.log.specs.declared.CallA.the-variants.{Tick, Pixel as PixelA}
+use Rattle.log.specs.declared.CallB.the-variants.{Pixel as PixelB, Blank, Sync}
 
 -- ---- Patterns
 
@@ -87,43 +90,49 @@ expands width v = pick (eqb width 6) (Expand width v) (pick (eqb width 8) (Expan
 
 -- an overlay enable is 0 or 1
 unfoldable pub shows : ℕ → ℕ → ℕ → Line
-shows enable o byte = pick (ltb enable 2) (PixelA enable o byte) Bad
+shows enable o byte = pick (ltb enable 2) (To (OfA (PixelA enable o byte))) Bad
 
--- lines for every chip: a field is the number that so many digits spell, from a place on
-abbrev pub commonForms : List Form
-commonForms =
-    form writing (λ t. Write (number 1 1 t) (number 2 3 t)) ∷
-    form reading (λ t. Read (number 1 1 t)) ∷
-    form resetting (λ t. Reset) ∷
-    form expanding (λ t. expands (number 1 7 t) (number 4 8 t)) ∷
-    form choosingA (λ t. ChooseA) ∷
-    form choosingB (λ t. ChooseB) ∷
-    form choosingC (λ t. ChooseC) ∷
+-- calls that every chip has: a field is the number that so many digits spell, from a place on
+abbrev pub callForms : List Form
+callForms =
+    form writing (λ t. To (Write (number 1 1 t) (number 2 3 t))) ∷
+    form reading (λ t. To (Read (number 1 1 t))) ∷
+    form resetting (λ t. To Reset) ∷
     []
 
--- lines for chip A
+-- calls of chip A
 abbrev pub aForms : List Form
 aForms =
-    form ticking (λ t. Tick) ∷
+    form ticking (λ t. To (OfA Tick)) ∷
     form showingA (λ t. shows (number 1 6 t) (number 1 7 t) (number 2 8 t)) ∷
-    form listing (λ t. Sheet) ∷
     []
 
--- lines for chip B
+-- calls of chip B
 abbrev pub bForms : List Form
 bForms =
-    form showingB (λ t. PixelB (number 1 6 t) (number 8 7 t)) ∷
-    form blanking (λ t. Blank (number 8 6 t)) ∷
-    form syncing (λ t. Sync (number 1 5 t)) ∷
+    form showingB (λ t. To (OfB (PixelB (number 1 6 t) (number 8 7 t)))) ∷
+    form blanking (λ t. To (OfB (Blank (number 8 6 t)))) ∷
+    form syncing (λ t. To (OfB (Sync (number 1 5 t)))) ∷
     []
+
+-- the board's own lines: the choice of a chip, the expander, and the sheet
+abbrev pub choices : List Form
+choices =
+    form choosingA (λ t. Choose ChipA) ∷
+    form choosingB (λ t. Choose ChipB) ∷
+    form choosingC (λ t. Choose ChipC) ∷
+    []
+
+abbrev pub boardForms : List Form
+boardForms = form expanding (λ t. expands (number 1 7 t) (number 4 8 t)) ∷ form listing (λ t. Sheet) ∷ choices
 
 -- ---- A line
 
--- what the first form that a line has says; the last argument where it has none
-unfoldable pub said : List Form → List ℕ → Line → Line
-said [] t other = other
-said (f ∷ fs) t other = pick (fits (f .pattern) t) (f .says t) (said fs t other)
+-- what the first form that a line has says; a line of no form, of any length, is bad
+unfoldable pub said : List Form → List ℕ → Line
+said [] t = Bad
+said (f ∷ fs) t = pick (fits (f .pattern) t) (f .says t) (said fs t)
 
--- what a line says; one of no form, of any length, is bad
+-- what a line says
 abbrev pub lineOf : List ℕ → Line
-lineOf t = said commonForms t (said aForms t (said bForms t Bad))
+lineOf t = said (callForms ++ aForms ++ bForms ++ boardForms) t

@@ -1,29 +1,50 @@
-// A line of a port log, from bytes to a call.
+// A line of a port log, from bytes to what it asks for.
 //
 // The replay's line forms decide; specs/Log.antt says each as a pattern, and `parse` equals it for any bytes. A line is
-// given without its LF. Which chip a line speaks to, and whether it is for that chip, is the board's to say.
+// given without its LF. Which chip a call goes to, and whether it is for that chip, is the board's to say.
 ghost use mathlib.Core.Path.{_≡_};
-ghost use Prim.Native.Nat.{_+_, _<_, _≤_};
-ghost use Rattle.sheet.specs.Sheet.{number};
+ghost use mathlib.Core.List.{_++_};
+ghost use Prim.Native.Nat.{_+_, _<_, _≤_, _^_};
+ghost use Rattle.sheet.specs.Sheet.{hexValue, number};
+ghost use lib.ListN.{getD};
 ghost use Rattle.log.specs.Log.{isDigit, stands as standsFor, fits as fitsPattern, said, lineOf};
-ghost use Rattle.log.specs.Log.{commonForms, aForms, bForms, expands, shows};
-ghost use Rattle.log.specs.declared.Line.the-variants.{Bad as badLine};
+ghost use Rattle.log.specs.Log.{aForms, bForms, boardForms, choices, expands, shows};
 
-// What a line asks for.
-pub enum Line {
-    ChooseA,
-    ChooseB,
-    ChooseC,
+// The chip that a line chooses.
+pub enum Chip {
+    ChipA,
+    ChipB,
+    ChipC,
+}
+
+// A call that chip A alone has.
+pub enum CallA {
+    Tick,
+    Pixel(u8, u8, u8),
+}
+
+// A call that chip B alone has.
+pub enum CallB {
+    Pixel(u8, u32),
+    Blank(u32),
+    Sync(u8),
+}
+
+// A call on the chip chosen last.
+pub enum Call {
     Write(u8, u8),
     Read(u8),
     Reset,
+    OfA(CallA),
+    OfB(CallB),
+}
+
+// What a line asks for.
+pub enum Line {
+    To(Call),
+    Choose(Chip),
     Expand(u8, u16),
-    Tick,
-    PixelA(u8, u8, u8),
     Sheet,
-    PixelB(u8, u32),
-    Blank(u32),
-    Sync(u8),
     Bad,
 }
 
@@ -70,32 +91,33 @@ fn fits(pattern: &[u8], t: &[u8]) -> bool
     true
 }
 
-// The number that one digit spells; two, four, eight.
-fn digit_at(t: &[u8], i: usize) -> u8
-    ensures { λ r. ⌜ (r ≡ number 1 i (now (t .entry))) × (r < 16) ⌝ }
+// The number that the digit at a place stands for.
+fn digit_at(t: &[u8], i: usize) -> u32
+    ensures { λ r. ⌜ (r ≡ hexValue (getD (now (t .entry)) i 0)) × (r < 16) ⌝ }
 {
-    sheet::nibble(sheet::byte(t, i)) as u8
+    sheet::nibble(sheet::byte(t, i)) as u32
 }
 
-fn byte_at(t: &[u8], i: usize) -> u8
-    requires { ⌜ i < 16 ⌝ }
-    ensures { λ r. ⌜ r ≡ number 2 i (now (t .entry)) ⌝ }
+// The number that so many digits spell, from a place on.
+fn spelt(t: &[u8], i: usize, width: usize) -> u32
+    requires { ⌜ (i < 16) × (width ≤ 8) ⌝ }
+    ensures { λ r. ⌜ (r ≡ number width i (now (t .entry))) × (r < 16 ^ width) ⌝ }
 {
-    digit_at(t, i) * 16 + digit_at(t, i + 1)
+    let mut v: u32 = 0;
+    let mut w: usize = 0;
+    while w < width {
+        v = v * 16 + digit_at(t, i + w);
+        w += 1;
+    }
+    v
 }
 
-fn four_at(t: &[u8], i: usize) -> u16
-    requires { ⌜ i < 14 ⌝ }
-    ensures { λ r. ⌜ r ≡ number 4 i (now (t .entry)) ⌝ }
+// The same of one digit or two.
+fn byte_at(t: &[u8], i: usize, width: usize) -> u8
+    requires { ⌜ (i < 16) × (width ≤ 2) ⌝ }
+    ensures { λ r. ⌜ r ≡ number width i (now (t .entry)) ⌝ }
 {
-    (byte_at(t, i) as u16) * 256 + (byte_at(t, i + 2) as u16)
-}
-
-fn eight_at(t: &[u8], i: usize) -> u32
-    requires { ⌜ i < 10 ⌝ }
-    ensures { λ r. ⌜ r ≡ number 8 i (now (t .entry)) ⌝ }
-{
-    (four_at(t, i) as u32) * 65536 + (four_at(t, i + 4) as u32)
+    spelt(t, i, width) as u8
 }
 
 // An expansion, of a width that the expander has.
@@ -116,39 +138,65 @@ fn pixel(enable: u8, number: u8, byte: u8) -> Line
     ensures { λ r. ⌜ r ≡ shows enable number byte ⌝ }
 {
     if enable < 2 {
-        return Line::PixelA(enable, number, byte);
+        return Line::To(Call::OfA(CallA::Pixel(enable, number, byte)));
     }
     Line::Bad
 }
 
-// A line for chip B, or a bad one.
-fn b_line(t: &[u8]) -> Line
-    ensures { λ r. ⌜ r ≡ said bForms (now (t .entry)) badLine ⌝ }
+// A line that chooses a chip, or a bad one.
+fn choice(t: &[u8]) -> Line
+    ensures { λ r. ⌜ r ≡ said choices (now (t .entry)) ⌝ }
 {
-    if fits(b"pixel=#########", t) {
-        return Line::PixelB(digit_at(t, 6), eight_at(t, 7));
+    if fits(b"chip=153108", t) {
+        return Line::Choose(Chip::ChipA);
     }
-    if fits(b"blank=########", t) {
-        return Line::Blank(eight_at(t, 6));
+    if fits(b"chip=622424", t) {
+        return Line::Choose(Chip::ChipB);
     }
-    if fits(b"sync=#", t) {
-        return Line::Sync(digit_at(t, 5));
+    if fits(b"chip=640", t) {
+        return Line::Choose(Chip::ChipC);
     }
     Line::Bad
 }
 
-// A line for chip A or B, or a bad one.
-fn own_line(t: &[u8]) -> Line
-    ensures { λ r. ⌜ r ≡ said aForms (now (t .entry)) (said bForms (now (t .entry)) badLine) ⌝ }
+// A line that makes no call on a chip, or a bad one.
+fn board_line(t: &[u8]) -> Line
+    ensures { λ r. ⌜ r ≡ said boardForms (now (t .entry)) ⌝ }
 {
-    if fits(b"tick", t) {
-        return Line::Tick;
-    }
-    if fits(b"pixel=####", t) {
-        return pixel(digit_at(t, 6), digit_at(t, 7), byte_at(t, 8));
+    if fits(b"expand=#####", t) {
+        return expansion(byte_at(t, 7, 1), spelt(t, 8, 4) as u16);
     }
     if fits(b"sheet", t) {
         return Line::Sheet;
+    }
+    choice(t)
+}
+
+// The same, or a call that chip B alone has.
+fn b_line(t: &[u8]) -> Line
+    ensures { λ r. ⌜ r ≡ said (bForms ++ boardForms) (now (t .entry)) ⌝ }
+{
+    if fits(b"pixel=#########", t) {
+        return Line::To(Call::OfB(CallB::Pixel(byte_at(t, 6, 1), spelt(t, 7, 8))));
+    }
+    if fits(b"blank=########", t) {
+        return Line::To(Call::OfB(CallB::Blank(spelt(t, 6, 8))));
+    }
+    if fits(b"sync=#", t) {
+        return Line::To(Call::OfB(CallB::Sync(byte_at(t, 5, 1))));
+    }
+    board_line(t)
+}
+
+// The same, or a call that chip A alone has.
+fn a_line(t: &[u8]) -> Line
+    ensures { λ r. ⌜ r ≡ said (aForms ++ bForms ++ boardForms) (now (t .entry)) ⌝ }
+{
+    if fits(b"tick", t) {
+        return Line::To(Call::OfA(CallA::Tick));
+    }
+    if fits(b"pixel=####", t) {
+        return pixel(byte_at(t, 6, 1), byte_at(t, 7, 1), byte_at(t, 8, 2));
     }
     b_line(t)
 }
@@ -158,25 +206,13 @@ pub fn parse(t: &[u8]) -> Line
     ensures { λ r. ⌜ r ≡ lineOf (now (t .entry)) ⌝ }
 {
     if fits(b"w#=##", t) {
-        return Line::Write(digit_at(t, 1), byte_at(t, 3));
+        return Line::To(Call::Write(byte_at(t, 1, 1), byte_at(t, 3, 2)));
     }
     if fits(b"r#", t) {
-        return Line::Read(digit_at(t, 1));
+        return Line::To(Call::Read(byte_at(t, 1, 1)));
     }
     if fits(b"reset", t) {
-        return Line::Reset;
+        return Line::To(Call::Reset);
     }
-    if fits(b"expand=#####", t) {
-        return expansion(digit_at(t, 7), four_at(t, 8));
-    }
-    if fits(b"chip=153108", t) {
-        return Line::ChooseA;
-    }
-    if fits(b"chip=622424", t) {
-        return Line::ChooseB;
-    }
-    if fits(b"chip=640", t) {
-        return Line::ChooseC;
-    }
-    own_line(t)
+    a_line(t)
 }

@@ -1,6 +1,5 @@
 use mathlib.Core.Path.{refl, sym, _∙_}
-use Rattle.vocabulary.specs.Choice.{pick}
-use Rattle.log.specs.Log.{said}
+use Rattle.log.proofs.Patterns.{said-first, said-next}
 use borrow.Author.Needs.{needs}
 use Rattle.log.proofs.b_line.Statement.{statement}
 use Rattle.log.proofs.b_line.Tie as tie
@@ -11,16 +10,15 @@ slice-aggregate-fits c = search needs
 fits-requires : tie.Need-fits-requires
 fits-requires c κs = search needs
 
-digit-at-requires : tie.Need-digit-at-requires
-digit-at-requires c κs = search needs
+byte-at-requires : tie.Need-byte-at-requires
+byte-at-requires c κs = search needs
 
-eight-at-requires : tie.Need-eight-at-requires
-eight-at-requires c κs = search needs
+spelt-requires : tie.Need-spelt-requires
+spelt-requires c κs = search needs
 
 returns : tie.Need-returns
-unfolding said pick
 returns c =
-    rw (sym (c .before .before .before .fits2 .ensures) ∙ c .before .before .if1 .taken) (cc)
+    rw (c .spelt .ensures .0, c .before .byte-at .ensures) (sym (said-first _ _ _ (c .before .before .before .fits2 .ensures) (c .before .before .if1 .taken)))
 
 slice-aggregate-fits-2 : tie.Need-slice-aggregate-fits-2
 slice-aggregate-fits-2 c = search needs
@@ -28,16 +26,13 @@ slice-aggregate-fits-2 c = search needs
 fits-requires-2 : tie.Need-fits-requires-2
 fits-requires-2 c κs = search needs
 
-eight-at-requires-2 : tie.Need-eight-at-requires-2
-eight-at-requires-2 c κs = search needs
+spelt-requires-2 : tie.Need-spelt-requires-2
+spelt-requires-2 c κs = search needs
 
 returns-2 : tie.Need-returns-2
-unfolding said pick
 returns-2 c =
-    rw (
-      sym (c .before .before .before .before .before .fits2 .ensures) ∙ c .before .before .before .before .if1 .left,
-      sym (c .before .before .fits3 .ensures) ∙ c .before .if2 .taken,
-    ) (cc)
+    rw (c .spelt2 .ensures .0) (sym (said-next _ _ _ (c .before .before .before .before .before .fits2 .ensures) (c .before .before .before .before .if1 .left)
+    ∙ said-first _ _ _ (c .before .before .fits3 .ensures) (c .before .if2 .taken)))
 
 slice-aggregate-fits-3 : tie.Need-slice-aggregate-fits-3
 slice-aggregate-fits-3 c = search needs
@@ -45,28 +40,23 @@ slice-aggregate-fits-3 c = search needs
 fits-requires-3 : tie.Need-fits-requires-3
 fits-requires-3 c κs = search needs
 
-digit-at-requires-2 : tie.Need-digit-at-requires-2
-digit-at-requires-2 c κs = search needs
+byte-at-requires-2 : tie.Need-byte-at-requires-2
+byte-at-requires-2 c κs = search needs
 
 returns-3 : tie.Need-returns-3
-unfolding said pick
 returns-3 c =
-    rw (
-      sym (c .before .before .before .before .before .before .before .before .fits2 .ensures) ∙ c .before .before
-          .before .before .before .before .before .if1 .left,
-      sym (c .before .before .before .before .before .fits3 .ensures) ∙ c .before .before .before .before .if2 .left,
-      sym (c .before .before .fits4 .ensures) ∙ c .before .if3 .taken,
-    ) (cc)
+    rw (c .byte-at2 .ensures) (sym (said-next _ _ _ (c .before .before .before .before .before .before .before .before .fits2 .ensures) (c .before .before .before .before .before .before .before .if1 .left)
+    ∙ said-next _ _ _ (c .before .before .before .before .before .fits3 .ensures) (c .before .before .before .before .if2 .left)
+    ∙ said-first _ _ _ (c .before .before .fits4 .ensures) (c .before .if3 .taken)))
+
+board-line-requires : tie.Need-board-line-requires
+board-line-requires c κs = search needs
 
 returns-4 : tie.Need-returns-4
-unfolding said pick
 returns-4 c =
-    rw (
-      sym (c .before .before .before .before .before .before .before .fits2 .ensures) ∙ c .before .before .before
-          .before .before .before .if1 .left,
-      sym (c .before .before .before .before .fits3 .ensures) ∙ c .before .before .before .if2 .left,
-      sym (c .before .fits4 .ensures) ∙ c .if3 .left,
-    ) refl
+    c .board-line .ensures ∙ sym (said-next _ _ _ (c .before .before .before .before .before .before .before .before .fits2 .ensures) (c .before .before .before .before .before .before .before .if1 .left)
+    ∙ said-next _ _ _ (c .before .before .before .before .before .fits3 .ensures) (c .before .before .before .before .if2 .left)
+    ∙ said-next _ _ _ (c .before .before .fits4 .ensures) (c .before .if3 .left))
 
 pub b-line-spec : {M : Type 1} → statement M
 b-line-spec =
@@ -74,15 +64,16 @@ b-line-spec =
     (tie.spec
     slice-aggregate-fits
     fits-requires
-    digit-at-requires
-    eight-at-requires
+    byte-at-requires
+    spelt-requires
     returns
     slice-aggregate-fits-2
     fits-requires-2
-    eight-at-requires-2
+    spelt-requires-2
     returns-2
     slice-aggregate-fits-3
     fits-requires-3
-    digit-at-requires-2
+    byte-at-requires-2
     returns-3
+    board-line-requires
     returns-4)

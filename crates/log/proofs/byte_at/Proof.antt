@@ -1,32 +1,21 @@
 use native.Mathlib.Omega.{arith}
-use Rattle.log.proofs.Number.{number-joins}
+use native.Mathlib.Nat.{pow-le-pow-right}
+use Prim.Native.Nat.{_≤_, _^_}
 use borrow.Author.Needs.{needs}
 use Rattle.log.proofs.byte_at.Statement.{statement}
 use Rattle.log.proofs.byte_at.Tie as tie
 
-digit-at-requires : tie.Need-digit-at-requires
-digit-at-requires c κs = search needs
+spelt-requires : tie.Need-spelt-requires
+spelt-requires c κs = search needs
 
-mul-result : tie.Need-mul-result
-mul-result c = search needs
-
-add-digit-at : tie.Need-add-digit-at
-add-digit-at c = search needs
-
-digit-at-requires-2 : tie.Need-digit-at-requires-2
-digit-at-requires-2 c κs = search needs
-
-add-result : tie.Need-add-result
-add-result c = search needs
+cast-result : tie.Need-cast-result
+cast-result c =
+    let g = c .before .before .args in
+    let most : 16 ^ g .width ≤ 16 ^ 2 = pow-le-pow-right {n = 16} (omega arith) {i = g .width} {j = 2} (omega arith) in
+    record { fits = omega arith }
 
 returns : tie.Need-returns
-returns c = omega (
-  arith,
-  number-joins 1 1 (c .before .before .before .args .i) (c .before .before .before .args .t
-      .now),
-)
+returns c = search needs
 
 pub byte-at-spec : {M : Type 1} → statement M
-byte-at-spec =
-    tie.close
-    (tie.spec digit-at-requires mul-result add-digit-at digit-at-requires-2 add-result returns)
+byte-at-spec = tie.close (tie.spec spelt-requires cast-result returns)

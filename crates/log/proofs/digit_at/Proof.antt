@@ -1,6 +1,5 @@
-use mathlib.Core.Path.{sym, ap, _∙_}
+use mathlib.Core.Path.{ap, _∙_}
 use Rattle.sheet.specs.Sheet.{hexValue}
-use Rattle.log.proofs.Number.{number-one}
 use borrow.Author.Needs.{needs}
 use Rattle.log.proofs.digit_at.Statement.{statement}
 use Rattle.log.proofs.digit_at.Tie as tie
@@ -16,11 +15,7 @@ cast-result c = search needs
 
 returns : tie.Need-returns
 returns c =
-    let g = c .before .before .before .args in (
-      c .nibble .ensures .0 ∙ ap hexValue (c .before .byte .ensures) ∙ sym (number-one (g .i) (g .t .now)),
-      search
-          needs,
-    )
+    (c .nibble .ensures .0 ∙ ap hexValue (c .before .byte .ensures), search needs)
 
 pub digit-at-spec : {M : Type 1} → statement M
 digit-at-spec = tie.close (tie.spec byte-requires nibble-requires cast-result returns)

@@ -1,85 +1,93 @@
 use mathlib.Core.Path.{_≡_, refl}
+use native.Mathlib.Omega.{arith}
 use lib.ListN.{length}
 use borrow.Author.Needs.{needs}
 use Rattle.replay.proofs.replay.Statement.{statement}
 use Rattle.replay.proofs.replay.Tie as tie
 
 abbrev Inv-loop : tie.InvT-loop
-Inv-loop hold₀ colours₀ overlays₀ queue₀ map₀ table₀ out₀ s₀ turns₀ hold colours overlays queue map table out s turns =
-    (length hold ≡ length hold₀)
+Inv-loop chunk₀ hold₀ colours₀ overlays₀ queue₀ map₀ table₀ page₀ out₀ s₀ chunk hold colours overlays queue map table page out s =
+    (length chunk ≡ length chunk₀)
+    × (length hold ≡ length hold₀)
     × (length colours ≡ length colours₀)
     × (length overlays ≡ length overlays₀)
     × (length queue ≡ length queue₀)
     × (length map ≡ length map₀)
     × (length table ≡ length table₀)
+    × (length page ≡ length page₀)
     × (length out ≡ length out₀)
 
 abbrev μ-loop : tie.MeasureT-loop
-μ-loop hold₀ colours₀ overlays₀ queue₀ map₀ table₀ out₀ s₀ turns₀ hold colours overlays queue map table out s turns =
-    turns
+μ-loop chunk₀ hold₀ colours₀ overlays₀ queue₀ map₀ table₀ page₀ out₀ s₀ chunk hold colours overlays queue map table page out s =
+    s .turns
 
 loop-holds : tie.Need-loop-holds Inv-loop μ-loop
-loop-holds c = (refl, refl, refl, refl, refl, refl, refl)
+loop-holds c =
+    (refl, refl, refl, refl, refl, refl, refl, refl, refl)
 
-sub-turns : tie.Need-sub-turns Inv-loop μ-loop
-sub-turns c = search needs
-
-read-some-requires : tie.Need-read-some-requires Inv-loop μ-loop
-read-some-requires c κs = search needs
+turn-requires : tie.Need-turn-requires Inv-loop μ-loop
+turn-requires c κs =
+    search needs
 
 loop-less : tie.Need-loop-less Inv-loop μ-loop
-loop-less c = search needs
+loop-less c =
+    omega (arith, c .before .before .before .before .before .before .before .before .before .before .before .before .before .before .before .before .before .before .turn .ensures)
 
 loop-again : tie.Need-loop-again Inv-loop μ-loop
-loop-again c = search needs
+loop-again c =
+    let l = c .before .before .before .before .before .before .before .before .before .before .before .before .before .before .before .before .before .before .before .before .before .before .before .before .before .before .before .before .before .before .loop .inv in
+    omega (
+      arith,
+      c .before .before .before .before .before .before .before .before .before .before .before .before .before .before .before .before .before .chunk .given,
+      c .before .before .before .before .before .before .before .before .before .before .before .before .before .before .before .hold .given,
+      c .before .before .before .before .before .before .before .before .before .before .before .before .before .colours .given,
+      c .before .before .before .before .before .before .before .before .before .before .before .overlays .given,
+      c .before .before .before .before .before .before .before .before .before .queue .given,
+      c .before .before .before .before .before .before .before .map .given,
+      c .before .before .before .before .before .table .given,
+      c .before .before .before .page .given,
+      c .before .out .given,
+    )
 
 same-length : tie.Need-same-length Inv-loop μ-loop
-same-length c = search needs
+same-length c =
+    search needs
 
 same-length-2 : tie.Need-same-length-2 Inv-loop μ-loop
-same-length-2 c = search needs
+same-length-2 c =
+    search needs
 
 same-length-3 : tie.Need-same-length-3 Inv-loop μ-loop
-same-length-3 c = search needs
+same-length-3 c =
+    search needs
 
 same-length-4 : tie.Need-same-length-4 Inv-loop μ-loop
-same-length-4 c = search needs
+same-length-4 c =
+    search needs
 
 same-length-5 : tie.Need-same-length-5 Inv-loop μ-loop
-same-length-5 c = search needs
+same-length-5 c =
+    search needs
 
 same-length-6 : tie.Need-same-length-6 Inv-loop μ-loop
-same-length-6 c = search needs
+same-length-6 c =
+    search needs
 
 same-length-7 : tie.Need-same-length-7 Inv-loop μ-loop
-same-length-7 c = search needs
-
-returns : tie.Need-returns Inv-loop μ-loop
-returns c = search needs
+same-length-7 c =
+    search needs
 
 same-length-8 : tie.Need-same-length-8 Inv-loop μ-loop
-same-length-8 c = search needs
+same-length-8 c =
+    search needs
 
 same-length-9 : tie.Need-same-length-9 Inv-loop μ-loop
-same-length-9 c = search needs
+same-length-9 c =
+    search needs
 
-same-length-10 : tie.Need-same-length-10 Inv-loop μ-loop
-same-length-10 c = search needs
-
-same-length-11 : tie.Need-same-length-11 Inv-loop μ-loop
-same-length-11 c = search needs
-
-same-length-12 : tie.Need-same-length-12 Inv-loop μ-loop
-same-length-12 c = search needs
-
-same-length-13 : tie.Need-same-length-13 Inv-loop μ-loop
-same-length-13 c = search needs
-
-same-length-14 : tie.Need-same-length-14 Inv-loop μ-loop
-same-length-14 c = search needs
-
-returns-2 : tie.Need-returns-2 Inv-loop μ-loop
-returns-2 c = search needs
+returns : tie.Need-returns Inv-loop μ-loop
+returns c =
+    search needs
 
 pub replay-spec : {M : Type 1} → statement M
 replay-spec =
@@ -88,8 +96,7 @@ replay-spec =
     Inv-loop
     μ-loop
     loop-holds
-    sub-turns
-    read-some-requires
+    turn-requires
     loop-less
     loop-again
     same-length
@@ -99,12 +106,6 @@ replay-spec =
     same-length-5
     same-length-6
     same-length-7
-    returns
     same-length-8
     same-length-9
-    same-length-10
-    same-length-11
-    same-length-12
-    same-length-13
-    same-length-14
-    returns-2)
+    returns)

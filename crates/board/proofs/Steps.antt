@@ -1,0 +1,69 @@
+-- What a step answers: a text alone, or the page that the sheet writer filled. Assumes nothing.
+use Prim.Native.Nat.{ℕ, zero, suc, _+_, _≤_}
+use mathlib.Core.Path.{_≡_, refl, sym, ap, _∙_}
+use mathlib.Core.List.{List, [], _∷_, _++_, append-nil}
+use native.Mathlib.Omega.{arith}
+use lib.ListN.{length, take, length-append}
+use lib.Seq.{take-append-seam}
+use Rattle.vocabulary.specs.Choice.{pick}
+use Rattle.vocabulary.specs.Refusal.{refusalOf}
+use Rattle.vocabulary.specs.Outcome.{Outcome, accepting, refusing, answeredAt}
+use Rattle.vocabulary.proofs.Outcome.{accepted-does, accepted-none}
+use Rattle.hd153108.specs.Hd153108.{Chip}
+use Rattle.sheet.specs.Sheet.{keyAt, front, lineText, values, textFrom, textOf, pasted, write}
+use Rattle.log.specs.declared.Chip as L
+use Rattle.log.specs.declared.Call.{Call}
+use Rattle.answers.specs.declared.Text.{Text}
+use Rattle.answers.specs.Answers.{told, Says}
+use Rattle.board.specs.declared.Board.{Board}
+use Rattle.board.specs.declared.Step.{Step}
+use Rattle.board.specs.Board.{Whole, called, listed, Answers, Took}
+
+abbrev step : Board → Text → ℕ → Step
+step board text listed = record { board = board; text = text; listed = listed }
+
+pub says-text : (b : Board) (t : Text) (page : List ℕ) {line : List ℕ} → Says t line → Answers (step b t 0) page line
+says-text b t page s = record {
+  short = rw (s .whole) (s .inside);
+  long = omega arith;
+  is = append-nil (take (t .len) (t .bytes)) ∙ s .is;
+}
+
+-- the writer's text has bytes
+text-counts : (a : Chip) → length (textOf a) ≡ 0 → ⊥
+unfolding textFrom values lineText keyAt front pick
+text-counts a e = omega (arith, e)
+
+module _ (a : Chip) (page : List ℕ) (n : ℕ) (out : List ℕ) where
+  -- an accepted sheet stands on the page
+  pub says-page : (b : Board) (bytes : List ℕ) → accepting 0 n out ≡ write a page
+      → Answers (step b (record { bytes = bytes; len = 0 }) n) out (told 0 (textOf a))
+  unfolding write told pasted
+  says-page b bytes e =
+      let r = ap (λ (o : Outcome (List ℕ)). o .refusal) e in
+      let d = e ∙ accepted-does 0 page _ (accepted-none _ 0 page _ (sym r)) in
+      let count : n ≡ length (textOf a) = ap (λ (o : Outcome (List ℕ)). o .count) d in
+      let left = ap (λ (o : Outcome (List ℕ)). o .left) d in
+      record {
+        short = omega arith;
+        long = rw (count, left, length-append) (omega arith);
+        is = rw (count, left) (take-append-seam (textOf a) _);
+      }
+
+  -- and a refusal of the writer has a number
+  pub refusal-number : (line : ℕ) → refusing n line out ≡ write a page → n ≡ 0 → ⊥
+  unfolding write
+  refusal-number line e z =
+      let r = ap (λ (o : Outcome (List ℕ)). o .refusal) e in
+      let d = e ∙ accepted-does 0 page _ (accepted-none _ 0 page _ (sym r ∙ z)) in
+      text-counts a (sym (ap (λ (o : Outcome (List ℕ)). o .count) d))
+
+-- a turn taken at the chip that was found chosen
+module _ {r : Step} {colours overlays queue map table page : List ℕ} (w : Whole) {k j : L.Chip} (e : k ≡ j) where
+  pub took-called : (call : Call) → Took r colours overlays queue map table page (called j call w)
+      → Took r colours overlays queue map table page (called k call w)
+  took-called call t = rw e t
+
+  pub took-listed : Took r colours overlays queue map table page (listed j w)
+      → Took r colours overlays queue map table page (listed k w)
+  took-listed t = rw e t

@@ -1,0 +1,51 @@
+use mathlib.Core.Path.{refl, sym, ap, _∙_}
+use Rattle.board.proofs.Resets.{a-reads-nothing, c-reads-nothing}
+use borrow.Author.Needs.{needs}
+use Rattle.board.proofs.start.Statement.{statement}
+use Rattle.board.proofs.start.Tie as tie
+
+a-given-requires : tie.Need-a-given-requires
+a-given-requires c κs = search needs
+
+zk-a-reset-requires : tie.Need-zk-a-reset-requires
+zk-a-reset-requires c κs = search needs
+
+b-given-requires : tie.Need-b-given-requires
+b-given-requires c κs = search needs
+
+zk-b-reset-requires : tie.Need-zk-b-reset-requires
+zk-b-reset-requires c κs = search needs
+
+c-given-requires : tie.Need-c-given-requires
+c-given-requires c κs = search needs
+
+zk-c-reset-requires : tie.Need-zk-c-reset-requires
+zk-c-reset-requires c κs = search needs
+
+same-length : tie.Need-same-length
+same-length c = search needs
+
+returns : tie.Need-returns
+returns c =
+    λ a map k page.
+    rw (
+      a-reads-nothing (a .state) (c .before .before .before .before .before .before .before .before .before .before .before .a-given .result),
+      c-reads-nothing (k .state) (c .before .before .before .before .c-given .result) (k .table),
+      sym (c .before .before .before .before .before .before .before .before .before .before .zk-a-reset .ensures),
+      sym (c .before .before .before .zk-c-reset .ensures (k .table)),
+      sym (c .before .before .before .before .before .before .before .before .before .b-given .ensures),
+      sym (c .before .before .before .before .before .before .before .zk-b-reset .ensures map),
+    ) refl
+
+pub start-spec : {M : Type 1} → statement M
+start-spec =
+    tie.close
+    (tie.spec
+    a-given-requires
+    zk-a-reset-requires
+    b-given-requires
+    zk-b-reset-requires
+    c-given-requires
+    zk-c-reset-requires
+    same-length
+    returns)
