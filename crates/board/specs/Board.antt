@@ -65,7 +65,7 @@ listed ChipB w = turn badText w
 listed ChipC w = turn badText w
 
 -- `chip=` chooses and changes nothing else, `expand=` speaks to any chip, a bad line calls nothing
-abbrev pub boardTurn : Line → Whole → Turn Whole
+unfoldable pub boardTurn : Line → Whole → Turn Whole
 boardTurn (To call) w = called (w .chosen) call w
 boardTurn (Choose chip) w = turn okText (choosing chip w)
 boardTurn (Expand width v) w = turn (expandText width v) w

@@ -42,6 +42,35 @@ fed (b ∷ bs) d =
     let more = fed bs (t .left) in
     turn (t .text ++ more .text) (more .left)
 
+-- the same by lines, each without its LF; and the bytes of such a log
+unfoldable pub answered : List (List ℕ) → Whole → Turn Whole
+answered [] w = turn [] w
+answered (l ∷ ls) w =
+    let t = boardTurn (lineOf l) w in
+    let more = answered ls (t .left) in
+    turn (t .text ++ more .text) (more .left)
+
+unfoldable pub logOf : List (List ℕ) → List ℕ
+logOf [] = []
+logOf (l ∷ ls) = l ++ 10 ∷ logOf ls
+
+-- no byte of a line is LF
+abbrev pub Within : List ℕ → Type 0
+Within [] = Unit
+Within (b ∷ bs) = (b ≡ 10 → ⊥) × Within bs
+
+abbrev pub AllWithin : List (List ℕ) → Type 0
+AllWithin [] = Unit
+AllWithin (l ∷ ls) = Within l × AllWithin ls
+
+-- A LOG BY LINES: with room for 16 bytes of a line, the bytes of a log of lines of any lengths leave the board and
+-- answer what the lines do, one after another, and the next line starts (proofs/Lines.antt, `by-lines`)
+pub record ByLines (ls : List (List ℕ)) (w : Whole) (t : Turn Desk) : Type 0 where
+  pub text : t .text ≡ answered ls w .text
+  pub board : t .left .board ≡ answered ls w .left
+  pub room : length (t .left .hold) ≡ 16
+  pub next : t .left .held ≡ 0
+
 -- what is handed back, with all that was lent as it is afterwards
 pub record Took (r : Fed) (hold colours overlays queue map table page : List ℕ) (t : Turn Desk) : Type 0 where
   pub says : Answers (r .step) page (t .text)

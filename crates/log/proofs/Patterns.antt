@@ -7,14 +7,15 @@ use native.Mathlib.Numerals.{add-one}
 use native.Mathlib.Omega.{arith}
 use lib.ListN.{length, drop, getD, drop-of-length-le}
 use lib.Seq.{drop-cons}
-use lib.Dec.{eqb, leb}
-use borrow.Author.Tests.{lt-ltb, le-ltb, le-leb, lt-leb, eq-eqb, ne-eqb}
+use lib.Dec.{eqb, leb, ltb}
+use borrow.Author.Tests.{ltb-true, lt-ltb, le-ltb, le-leb, lt-leb, eq-eqb, ne-eqb}
 use Rattle.vocabulary.proofs.Choice.{picks-first, picks-second}
+use Rattle.sheet.proofs.Starts.{both}
 use Rattle.log.specs.declared.Line.{Line}
 use Rattle.log.specs.declared.Line.the-variants.{To, Expand, Bad}
 use Rattle.log.specs.declared.Call.the-variants.{OfA}
 use Rattle.log.specs.declared.CallA.the-variants.{Pixel}
-use Rattle.log.specs.Log.{isDigit, stands, fits, expands, shows, Form, said}
+use Rattle.log.specs.Log.{isDigit, stands, fits, expands, shows, Form, said, lineOf}
 
 nothing : (b : Bool) → (b && false) ≡ false
 nothing true = refl
@@ -111,3 +112,20 @@ module _ (f : Form) (fs : List Form) (t : List ℕ) {b : Bool} (e : b ≡ fits (
   pub said-next : b ≡ false → said (f ∷ fs) t ≡ said fs t
   unfolding said
   said-next h = picks-second _ _ (sym e ∙ h)
+
+-- every form is shorter than 16 bytes, so that a line of 16 or more has none
+short : List Form → Bool
+short [] = true
+short (f ∷ fs) = ltb (length (f .pattern)) 16 && short fs
+
+said-long : (fs : List Form) (t : List ℕ) → short fs ≡ true → 16 ≤ length t → said fs t ≡ Bad
+unfolding said short
+said-long [] t e h = refl
+said-long (f ∷ fs) t e h =
+    let tests = both (ltb (length (f .pattern)) 16) (short fs) e in
+    let less = ltb-true (length (f .pattern)) 16 (tests .0) in
+    picks-second _ _ (fits-length (f .pattern) t (λ same. omega arith)) ∙ said-long fs t (tests .1) h
+
+pub line-long : (t : List ℕ) → 16 ≤ length t → lineOf t ≡ Bad
+unfolding short
+line-long t h = said-long _ t refl h
