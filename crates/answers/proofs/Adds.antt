@@ -1,4 +1,4 @@
--- Texts that grow: a byte behind a text, words one after another, digits, and answers by their refusal. Assumes nothing.
+-- Texts that grow: a byte behind a text, words one after another, digits, and answers by refusal. Assumes nothing.
 use Prim.Native.Nat.{ℕ, zero, suc, _+_, _-_, _/_, _%_, _≤_, _<_}
 use mathlib.Core.Path.{_≡_, refl, sym, ap, _∙_}
 use mathlib.Core.List.{List, [], _∷_, _++_, append-nil, append-assoc}
@@ -86,7 +86,11 @@ unfolding decimal
 length-decimal zero n = omega arith
 length-decimal (suc most) n =
     cases (ltb n 10) (λ e. rw (picks-first {A = List ℕ} [] (decimal most (n / 10)) e) (omega arith))
-    (λ e. rw (picks-second {A = List ℕ} [] (decimal most (n / 10)) e, length-append (decimal most (n / 10)) ((48 + n % 10) ∷ []))
+    (λ e. rw (
+      picks-second {A = List ℕ} [] (decimal most (n / 10)) e,
+      length-append (decimal most (n / 10)) ((48 + n
+          % 10) ∷ []),
+    )
     (let l = length-decimal most (n / 10) in omega arith))
 
 -- ---- Answers by their refusal

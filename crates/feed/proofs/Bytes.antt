@@ -47,7 +47,11 @@ module _ {colours overlays queue map table page : List ℕ} where
 
   pub took-silent : (board : Board) (bytes hold : List ℕ) (held : ℕ) {d : Desk}
       → d ≡ desk (B.whole board colours overlays queue map table page) hold held
-      → Took (record { step = record { board = board; text = record { bytes = bytes; len = 0 }; listed = 0 }; held = held })
+      → Took (record {
+        step = record { board = board; text = record { bytes = bytes; len = 0 }; listed = 0 };
+        held =
+            held;
+      })
       hold colours overlays queue map table page (turn [] d)
   took-silent board bytes hold held e = record {
     says = record { short = omega arith; long = omega arith; is = refl };

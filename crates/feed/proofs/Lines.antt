@@ -78,7 +78,8 @@ reads : (bs : List ℕ) (w : Whole) (line : List ℕ) (d : Desk) → Reading w l
 unfolding fed
 reads [] w line d r h = (rw append-nil r, refl)
 reads (b ∷ bs) w line d r h =
-    rw (byte-holds b d (h .0), sym (append-snoc line b bs)) (reads bs w (line ++ b ∷ []) (kept b d) (reads-byte b w line d r) (h .1))
+    rw (byte-holds b d (h .0), sym (append-snoc line b bs)) (reads bs w (line ++ b ∷ []) (kept b d) (reads-byte b w
+    line d r) (h .1))
 
 -- bytes behind bytes
 fed-more : (xs ys : List ℕ) (d : Desk)

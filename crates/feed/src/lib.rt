@@ -1,9 +1,9 @@
 // A log's bytes put to a board, one after another.
 //
 // The replay's description decides: LF ends a line, and a line of another shape than the forms is bad, of any length.
-// specs/Feed.antt says what one byte does (`byteTurn`), and `take` equals it, for any lent room. No form has 16 bytes, so
-// that a room of 16 is enough: proofs/Lines.antt shows that a line of any length is then answered as the line that it
-// is. Not modelled: where the bytes come from and where the answers go, which is the program's.
+// specs/Feed.antt says what one byte does (`byteTurn`), and `take` equals it, for any lent room. No form has 16 bytes,
+// so that a room of 16 is enough: a line of any length is then answered as the line that it is (`by-lines`, in
+// proofs/Lines.antt). Not modelled: where the bytes come from and where the answers go, which is the program's.
 use answers::Text;
 use board::Board;
 use board::Step;

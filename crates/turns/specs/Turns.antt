@@ -1,5 +1,5 @@
--- What a log line's call does to the chip that it goes to, and the line that answers it: which call of the chip is made,
--- and how its outcome is told. A call that the chip has not is bad and changes nothing.
+-- What a log line's call does to the chip that it goes to, and the line that answers it: which call of the chip is
+-- made, and how its outcome is told. A call that the chip has not is bad and changes nothing.
 use Prim.Native.Nat.{ℕ, _/_, _%_}
 use mathlib.Core.Path.{_≡_}
 use mathlib.Core.List.{List}

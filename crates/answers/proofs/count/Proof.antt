@@ -3,12 +3,6 @@ use borrow.Author.Needs.{needs}
 use Rattle.answers.proofs.count.Statement.{statement}
 use Rattle.answers.proofs.count.Tie as tie
 
-decimal-requires : tie.Need-decimal-requires
-decimal-requires c κs = search needs
-
-put-requires : tie.Need-put-requires
-put-requires c κs = search needs
-
 returns : tie.Need-returns
 returns c =
     let g = c .before .before .args in
@@ -16,4 +10,4 @@ returns c =
     (c .before .decimal .ensures) (c .put .ensures)
 
 pub count-spec : {M : Type 1} → statement M
-count-spec = tie.close (tie.spec decimal-requires put-requires returns)
+count-spec = tie.close (tie.spec (λ c κs. search needs) (λ c κs. search needs) returns)

@@ -5,17 +5,12 @@ use borrow.Author.Needs.{needs}
 use Rattle.answers.proofs.field.Statement.{statement}
 use Rattle.answers.proofs.field.Tie as tie
 
-hex-requires : tie.Need-hex-requires
-hex-requires c κs = search needs
-
-put-requires : tie.Need-put-requires
-put-requires c κs = search needs
-
 returns : tie.Need-returns
 returns c =
     let g = c .before .before .args in
-    says-line (g .name) (g .len) (g .width) _ (search needs) (omega (arith, length-hex (g .width) (g .v))) (search needs)
+    says-line (g .name) (g .len) (g .width) _ (search needs) (omega (arith, length-hex (g .width) (g .v))) (search
+    needs)
     (c .before .hex .ensures) (c .put .ensures)
 
 pub field-spec : {M : Type 1} → statement M
-field-spec = tie.close (tie.spec hex-requires put-requires returns)
+field-spec = tie.close (tie.spec (λ c κs. search needs) (λ c κs. search needs) returns)

@@ -3,12 +3,6 @@ use borrow.Author.Needs.{needs}
 use Rattle.answers.proofs.put.Statement.{statement}
 use Rattle.answers.proofs.put.Tie as tie
 
-array-write-bytes : tie.Need-array-write-bytes
-array-write-bytes c = search needs
-
-add-t9 : tie.Need-add-t9
-add-t9 c = search needs
-
 returns : tie.Need-returns
 returns c =
     adds-byte (c .before .before .args .t) (c .before .before .args .b) (c .before .if1 .taken)
@@ -18,4 +12,4 @@ returns-2 c =
     adds-full (c .before .args .t) (c .before .args .b) (c .if1 .left)
 
 pub put-spec : {M : Type 1} → statement M
-put-spec = tie.close (tie.spec array-write-bytes add-t9 returns returns-2)
+put-spec = tie.close (tie.spec (λ c. search needs) (λ c. search needs) returns returns-2)

@@ -4,12 +4,9 @@ use borrow.Author.Needs.{needs}
 use Rattle.board.proofs.bad.Statement.{statement}
 use Rattle.board.proofs.bad.Tie as tie
 
-bad-requires : tie.Need-bad-requires
-bad-requires c κs = search needs
-
 returns : tie.Need-returns
 returns c =
     λ colours overlays queue map table page. record { says = says-text _ _ page (c .bad .ensures); leaves = refl }
 
 pub bad-spec : {M : Type 1} → statement M
-bad-spec = tie.close (tie.spec bad-requires returns)
+bad-spec = tie.close (tie.spec (λ c κs. search needs) returns)

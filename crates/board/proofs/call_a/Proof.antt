@@ -6,23 +6,15 @@ use borrow.Author.Needs.{needs}
 use Rattle.board.proofs.call_a.Statement.{statement}
 use Rattle.board.proofs.call_a.Tie as tie
 
-a-turn-requires : tie.Need-a-turn-requires
-a-turn-requires c κs = search needs
-
-same-length : tie.Need-same-length
-same-length c = search needs
-
-same-length-2 : tie.Need-same-length-2
-same-length-2 c = search needs
-
 returns : tie.Need-returns
 returns c =
     let t = c .before .before .before .before .before .before .a-turn .ensures in
     let g = c .before .before .before .before .before .before .before .before .before .before .before .args in
     λ queue map table page. record {
       says = says-text _ _ page (t .says);
-      leaves = ap (λ (k : Chip). withA k (whole (g .board) (g .colours .now) (g .overlays .now) queue map table page)) (t .leaves);
+      leaves = ap (λ (k : Chip). withA k (whole (g .board) (g .colours .now) (g .overlays .now) queue map table
+          page)) (t .leaves);
     }
 
 pub call-a-spec : {M : Type 1} → statement M
-call-a-spec = tie.close (tie.spec a-turn-requires same-length same-length-2 returns)
+call-a-spec = tie.close (tie.spec (λ c κs. search needs) (λ c. search needs) (λ c. search needs) returns)

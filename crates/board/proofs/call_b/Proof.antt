@@ -6,23 +6,15 @@ use borrow.Author.Needs.{needs}
 use Rattle.board.proofs.call_b.Statement.{statement}
 use Rattle.board.proofs.call_b.Tie as tie
 
-b-turn-requires : tie.Need-b-turn-requires
-b-turn-requires c κs = search needs
-
-same-length : tie.Need-same-length
-same-length c = search needs
-
-same-length-2 : tie.Need-same-length-2
-same-length-2 c = search needs
-
 returns : tie.Need-returns
 returns c =
     let t = c .before .before .before .before .before .before .b-turn .ensures in
     let g = c .before .before .before .before .before .before .before .before .before .before .before .args in
     λ colours overlays table page. record {
       says = says-text _ _ page (t .says);
-      leaves = ap (λ (k : Chip). withB k (whole (g .board) colours overlays (g .queue .now) (g .map .now) table page)) (t .leaves);
+      leaves = ap (λ (k : Chip). withB k (whole (g .board) colours overlays (g .queue .now) (g .map .now) table
+          page)) (t .leaves);
     }
 
 pub call-b-spec : {M : Type 1} → statement M
-call-b-spec = tie.close (tie.spec b-turn-requires same-length same-length-2 returns)
+call-b-spec = tie.close (tie.spec (λ c κs. search needs) (λ c. search needs) (λ c. search needs) returns)

@@ -6,20 +6,15 @@ use borrow.Author.Needs.{needs}
 use Rattle.board.proofs.call_c.Statement.{statement}
 use Rattle.board.proofs.call_c.Tie as tie
 
-c-turn-requires : tie.Need-c-turn-requires
-c-turn-requires c κs = search needs
-
-same-length : tie.Need-same-length
-same-length c = search needs
-
 returns : tie.Need-returns
 returns c =
     let t = c .before .before .before .before .c-turn .ensures in
     let g = c .before .before .before .before .before .before .before .args in
     λ colours overlays queue map page. record {
       says = says-text _ _ page (t .says);
-      leaves = ap (λ (k : Chip). withC k (whole (g .board) colours overlays queue map (g .table .now) page)) (t .leaves);
+      leaves = ap (λ (k : Chip). withC k (whole (g .board) colours overlays queue map (g .table .now) page)) (t
+          .leaves);
     }
 
 pub call-c-spec : {M : Type 1} → statement M
-call-c-spec = tie.close (tie.spec c-turn-requires same-length returns)
+call-c-spec = tie.close (tie.spec (λ c κs. search needs) (λ c. search needs) returns)

@@ -9,46 +9,30 @@ use borrow.Author.Needs.{needs}
 use Rattle.board.proofs.start.Statement.{statement}
 use Rattle.board.proofs.start.Tie as tie
 
-a-given-requires : tie.Need-a-given-requires
-a-given-requires c κs = search needs
-
-zk-a-reset-requires : tie.Need-zk-a-reset-requires
-zk-a-reset-requires c κs = search needs
-
-b-given-requires : tie.Need-b-given-requires
-b-given-requires c κs = search needs
-
-zk-b-reset-requires : tie.Need-zk-b-reset-requires
-zk-b-reset-requires c κs = search needs
-
-c-given-requires : tie.Need-c-given-requires
-c-given-requires c κs = search needs
-
-zk-c-reset-requires : tie.Need-zk-c-reset-requires
-zk-c-reset-requires c κs = search needs
-
-same-length : tie.Need-same-length
-same-length c = search needs
-
 returns : tie.Need-returns
 returns c =
     λ a map k page.
     same-board _ page
     (ap (λ (o : Outcome AS.State). A.chip (o .left) (a .colours) (a .overlays))
-    (c .before .before .before .before .before .before .before .before .before .before .zk-a-reset .ensures ∙ a-reads-nothing (c .before .before .before .before .before .before .before .before .before .before .before .a-given .result) (a .state)))
-    (ap (λ (o : Outcome B.Chip). o .left) (rw (c .before .before .before .before .before .before .before .before .before .b-given .ensures) at (c .before .before .before .before .before .before .before .zk-b-reset .ensures map)))
+    (c .before .before .before .before .before .before .before .before .before .before .zk-a-reset .ensures ∙
+    a-reads-nothing (c .before .before .before .before .before .before .before .before .before .before .before
+    .a-given .result) (a .state)))
+    (ap (λ (o : Outcome B.Chip). o .left) (rw (c .before .before .before .before .before .before .before .before
+    .before .b-given .ensures) at (c .before .before .before .before .before .before .before .zk-b-reset .ensures
+    map)))
     (ap (λ (o : Outcome C.Chip). o .left)
-    (c .before .before .before .zk-c-reset .ensures (k .table) ∙ c-reads-nothing (c .before .before .before .before .c-given .result) (k .state) (k .table)))
+    (c .before .before .before .zk-c-reset .ensures (k .table) ∙ c-reads-nothing (c .before .before .before .before
+    .c-given .result) (k .state) (k .table)))
 
 pub start-spec : {M : Type 1} → statement M
 start-spec =
     tie.close
     (tie.spec
-    a-given-requires
-    zk-a-reset-requires
-    b-given-requires
-    zk-b-reset-requires
-    c-given-requires
-    zk-c-reset-requires
-    same-length
+    (λ c κs. search needs)
+    (λ c κs. search needs)
+    (λ c κs. search needs)
+    (λ c κs. search needs)
+    (λ c κs. search needs)
+    (λ c κs. search needs)
+    (λ c. search needs)
     returns)

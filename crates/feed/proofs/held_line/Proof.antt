@@ -9,15 +9,6 @@ slice-aggregate-parse : tie.Need-slice-aggregate-parse
 slice-aggregate-parse c =
     sym (length-take-le _ _ (search needs))
 
-parse-requires : tie.Need-parse-requires
-parse-requires c κs = search needs
-
-returns : tie.Need-returns
-returns c = search needs
-
-parse-requires-2 : tie.Need-parse-requires-2
-parse-requires-2 c κs = search needs
-
 returns-2 : tie.Need-returns-2
 returns-2 c =
     let g = c .before .before .before .args in
@@ -25,4 +16,5 @@ returns-2 c =
 
 pub held-line-spec : {M : Type 1} → statement M
 held-line-spec =
-    tie.close (tie.spec slice-aggregate-parse parse-requires returns parse-requires-2 returns-2)
+    tie.close (tie.spec slice-aggregate-parse (λ c κs. search needs) (λ c. search needs) (λ c κs. search needs)
+    returns-2)

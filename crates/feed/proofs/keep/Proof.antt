@@ -3,24 +3,17 @@ use borrow.Author.Needs.{needs}
 use Rattle.feed.proofs.keep.Statement.{statement}
 use Rattle.feed.proofs.keep.Tie as tie
 
-slice-write-hold : tie.Need-slice-write-hold
-slice-write-hold c = search needs
-
-add-t11 : tie.Need-add-t11
-add-t11 c = search needs
-
-same-length : tie.Need-same-length
-same-length c = search needs
-
 returns : tie.Need-returns
 returns c =
     let g = c .before .args in
-    λ colours overlays queue map table page. took-silent _ _ _ _ (kept-room (g .b) _ (g .hold .now) (g .held) (c .if1 .taken))
+    λ colours overlays queue map table page. took-silent _ _ _ _ (kept-room (g .b) _ (g .hold .now) (g .held) (c .if1
+    .taken))
 
 returns-2 : tie.Need-returns-2
 returns-2 c =
     let g = c .before .args in
-    λ colours overlays queue map table page. took-silent _ _ _ _ (kept-full (g .b) _ (g .hold .now) (g .held) (c .if1 .left))
+    λ colours overlays queue map table page. took-silent _ _ _ _ (kept-full (g .b) _ (g .hold .now) (g .held) (c .if1
+    .left))
 
 pub keep-spec : {M : Type 1} → statement M
-keep-spec = tie.close (tie.spec slice-write-hold add-t11 same-length returns returns-2)
+keep-spec = tie.close (tie.spec (λ c. search needs) (λ c. search needs) (λ c. search needs) returns returns-2)

@@ -21,15 +21,6 @@ returns c = sym (fits-length (c .before .before .before .args .pattern .now) (c 
 loop-holds : tie.Need-loop-holds Inv-loop μ-loop
 loop-holds c = (search needs, refl)
 
-shared-slice-read-stands : tie.Need-shared-slice-read-stands Inv-loop μ-loop
-shared-slice-read-stands c = search needs
-
-shared-slice-read-stands-2 : tie.Need-shared-slice-read-stands-2 Inv-loop μ-loop
-shared-slice-read-stands-2 c = search needs
-
-stands-requires : tie.Need-stands-requires Inv-loop μ-loop
-stands-requires c κs = search needs
-
 returns-2 : tie.Need-returns-2 Inv-loop μ-loop
 returns-2 c =
     let l = c .before .before .before .before .before .loop in
@@ -37,12 +28,6 @@ returns-2 c =
     .before .before .before .before .before .before .before .before .before .args .t .now) (l .i) (search needs)
     (search needs) (sym (c .before .stands .ensures) ∙ not-true _ (c .if2 .taken)))
     ∙ l .inv .1
-
-add-i : tie.Need-add-i Inv-loop μ-loop
-add-i c = search needs
-
-loop-less : tie.Need-loop-less Inv-loop μ-loop
-loop-less c = search needs
 
 loop-again : tie.Need-loop-again Inv-loop μ-loop
 loop-again c =
@@ -67,11 +52,11 @@ fits-spec =
     μ-loop
     returns
     loop-holds
-    shared-slice-read-stands
-    shared-slice-read-stands-2
-    stands-requires
+    (λ c. search needs)
+    (λ c. search needs)
+    (λ c κs. search needs)
     returns-2
-    add-i
-    loop-less
+    (λ c. search needs)
+    (λ c. search needs)
     loop-again
     returns-3)

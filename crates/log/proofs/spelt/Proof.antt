@@ -29,10 +29,6 @@ add-digit-at : tie.Need-add-digit-at Inv-loop μ-loop
 add-digit-at c =
     omega arith
 
-digit-at-requires : tie.Need-digit-at-requires Inv-loop μ-loop
-digit-at-requires c κs =
-    search needs
-
 add-v : tie.Need-add-v Inv-loop μ-loop
 add-v c =
     let l = c .before .before .loop in
@@ -69,7 +65,7 @@ spelt-spec =
     loop-holds
     mul-v
     add-digit-at
-    digit-at-requires
+    (λ c κs. search needs)
     add-v
     add-w
     loop-less

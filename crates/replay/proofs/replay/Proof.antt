@@ -6,7 +6,8 @@ use Rattle.replay.proofs.replay.Statement.{statement}
 use Rattle.replay.proofs.replay.Tie as tie
 
 abbrev Inv-loop : tie.InvT-loop
-Inv-loop chunk₀ hold₀ colours₀ overlays₀ queue₀ map₀ table₀ page₀ out₀ s₀ chunk hold colours overlays queue map table page out s =
+Inv-loop chunk₀ hold₀ colours₀ overlays₀ queue₀ map₀ table₀ page₀ out₀ s₀ chunk hold colours overlays queue map table
+    page out s =
     (length chunk ≡ length chunk₀)
     × (length hold ≡ length hold₀)
     × (length colours ≡ length colours₀)
@@ -18,29 +19,35 @@ Inv-loop chunk₀ hold₀ colours₀ overlays₀ queue₀ map₀ table₀ page�
     × (length out ≡ length out₀)
 
 abbrev μ-loop : tie.MeasureT-loop
-μ-loop chunk₀ hold₀ colours₀ overlays₀ queue₀ map₀ table₀ page₀ out₀ s₀ chunk hold colours overlays queue map table page out s =
+μ-loop chunk₀ hold₀ colours₀ overlays₀ queue₀ map₀ table₀ page₀ out₀ s₀ chunk hold colours overlays queue map table
+    page out s =
     s .turns
 
 loop-holds : tie.Need-loop-holds Inv-loop μ-loop
 loop-holds c =
     (refl, refl, refl, refl, refl, refl, refl, refl, refl)
 
-turn-requires : tie.Need-turn-requires Inv-loop μ-loop
-turn-requires c κs =
-    search needs
-
 loop-less : tie.Need-loop-less Inv-loop μ-loop
 loop-less c =
-    omega (arith, c .before .before .before .before .before .before .before .before .before .before .before .before .before .before .before .before .before .before .turn .ensures)
+    omega (
+      arith,
+      c .before .before .before .before .before .before .before .before .before .before .before .before
+          .before .before .before .before .before .before .turn .ensures,
+    )
 
 loop-again : tie.Need-loop-again Inv-loop μ-loop
 loop-again c =
-    let l = c .before .before .before .before .before .before .before .before .before .before .before .before .before .before .before .before .before .before .before .before .before .before .before .before .before .before .before .before .before .before .loop .inv in
+    let l = c .before .before .before .before .before .before .before .before .before .before .before .before .before
+    .before .before .before .before .before .before .before .before .before .before .before .before .before .before
+    .before .before .before .loop .inv in
     omega (
       arith,
-      c .before .before .before .before .before .before .before .before .before .before .before .before .before .before .before .before .before .chunk .given,
-      c .before .before .before .before .before .before .before .before .before .before .before .before .before .before .before .hold .given,
-      c .before .before .before .before .before .before .before .before .before .before .before .before .before .colours .given,
+      c .before .before .before .before .before .before .before .before .before .before .before .before .before
+          .before .before .before .before .chunk .given,
+      c .before .before .before .before .before .before .before .before .before .before .before .before .before
+          .before .before .hold .given,
+      c .before .before .before .before .before .before .before .before .before .before .before .before .before
+          .colours .given,
       c .before .before .before .before .before .before .before .before .before .before .before .overlays .given,
       c .before .before .before .before .before .before .before .before .before .queue .given,
       c .before .before .before .before .before .before .before .map .given,
@@ -49,46 +56,6 @@ loop-again c =
       c .before .out .given,
     )
 
-same-length : tie.Need-same-length Inv-loop μ-loop
-same-length c =
-    search needs
-
-same-length-2 : tie.Need-same-length-2 Inv-loop μ-loop
-same-length-2 c =
-    search needs
-
-same-length-3 : tie.Need-same-length-3 Inv-loop μ-loop
-same-length-3 c =
-    search needs
-
-same-length-4 : tie.Need-same-length-4 Inv-loop μ-loop
-same-length-4 c =
-    search needs
-
-same-length-5 : tie.Need-same-length-5 Inv-loop μ-loop
-same-length-5 c =
-    search needs
-
-same-length-6 : tie.Need-same-length-6 Inv-loop μ-loop
-same-length-6 c =
-    search needs
-
-same-length-7 : tie.Need-same-length-7 Inv-loop μ-loop
-same-length-7 c =
-    search needs
-
-same-length-8 : tie.Need-same-length-8 Inv-loop μ-loop
-same-length-8 c =
-    search needs
-
-same-length-9 : tie.Need-same-length-9 Inv-loop μ-loop
-same-length-9 c =
-    search needs
-
-returns : tie.Need-returns Inv-loop μ-loop
-returns c =
-    search needs
-
 pub replay-spec : {M : Type 1} → statement M
 replay-spec =
     tie.close
@@ -96,16 +63,16 @@ replay-spec =
     Inv-loop
     μ-loop
     loop-holds
-    turn-requires
+    (λ c κs. search needs)
     loop-less
     loop-again
-    same-length
-    same-length-2
-    same-length-3
-    same-length-4
-    same-length-5
-    same-length-6
-    same-length-7
-    same-length-8
-    same-length-9
-    returns)
+    (λ c. search needs)
+    (λ c. search needs)
+    (λ c. search needs)
+    (λ c. search needs)
+    (λ c. search needs)
+    (λ c. search needs)
+    (λ c. search needs)
+    (λ c. search needs)
+    (λ c. search needs)
+    (λ c. search needs))

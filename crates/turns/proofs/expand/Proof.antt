@@ -6,27 +6,18 @@ use borrow.Author.Needs.{needs}
 use Rattle.turns.proofs.expand.Statement.{statement}
 use Rattle.turns.proofs.expand.Tie as tie
 
-expand6-requires : tie.Need-expand6-requires
-expand6-requires c κs = search needs
-
-ten-requires : tie.Need-ten-requires
-ten-requires c κs = search needs
-
 returns : tie.Need-returns
 returns c =
-    rw (picks-first {A = ℕ} 6 8 (eq-eqb _ 6 (c .before .before .if1 .taken)), sym (c .before .expand6 .ensures)) (c .ten .ensures)
-
-expand8-requires : tie.Need-expand8-requires
-expand8-requires c κs = search needs
-
-ten-requires-2 : tie.Need-ten-requires-2
-ten-requires-2 c κs = search needs
+    rw (picks-first {A = ℕ} 6 8 (eq-eqb _ 6 (c .before .before .if1 .taken)), sym (c .before .expand6 .ensures)) (c
+    .ten .ensures)
 
 returns-2 : tie.Need-returns-2
 returns-2 c =
-    rw (picks-second {A = ℕ} 6 8 (ne-eqb _ 6 (c .before .before .if1 .left)), sym (c .before .expand8 .ensures)) (c .ten2 .ensures)
+    rw (picks-second {A = ℕ} 6 8 (ne-eqb _ 6 (c .before .before .if1 .left)), sym (c .before .expand8 .ensures)) (c
+    .ten2 .ensures)
 
 pub expand-spec : {M : Type 1} → statement M
 expand-spec =
     tie.close
-    (tie.spec expand6-requires ten-requires returns expand8-requires ten-requires-2 returns-2)
+    (tie.spec (λ c κs. search needs) (λ c κs. search needs) returns (λ c κs. search needs) (λ c κs. search needs)
+    returns-2)
