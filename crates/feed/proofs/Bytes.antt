@@ -38,22 +38,24 @@ module _ {colours overlays queue map table page : List ℕ} where
       → Took r hold colours overlays queue map table page u → Took r hold colours overlays queue map table page t
   took-as e t = rw e t
 
-  pub took-line : (step : Step) (w : B.Whole) (hold : List ℕ) (held : ℕ) (line : Line) → line ≡ lineOf (take held hold)
-      → B.Took step colours overlays queue map table page (B.boardTurn line w)
-      → Took (record { step = step; held = 0 }) hold colours overlays queue map table page (ended (desk w hold held))
-  took-line step w hold held line e t =
+  pub took-line : (step : Step) (w : B.Whole) (hold : List ℕ) (held taken : ℕ) (line : Line)
+      → line ≡ lineOf (take held hold) → B.Took step colours overlays queue map table page (B.boardTurn line w)
+      → Took (record { step = step; held = 0; taken = taken }) hold colours overlays queue map table page
+      (ended (desk w hold held))
+  took-line step w hold held taken line e t =
       let u = rw e at t in
       record { says = u .says; leaves = ap (λ (x : B.Whole). desk x hold 0) (u .leaves) }
 
-  pub took-silent : (board : Board) (bytes hold : List ℕ) (held : ℕ) {d : Desk}
-      → d ≡ desk (B.whole board colours overlays queue map table page) hold held
-      → Took (record {
+  pub took-silent : (board : Board) (bytes hold : List ℕ) (held taken : ℕ)
+      → Took
+      (record {
         step = record { board = board; text = record { bytes = bytes; len = 0 }; listed = 0 };
-        held =
-            held;
+        held = held;
+        taken = taken;
       })
-      hold colours overlays queue map table page (turn [] d)
-  took-silent board bytes hold held e = record {
+      hold colours overlays queue map table page
+      (turn [] (desk (B.whole board colours overlays queue map table page) hold held))
+  took-silent board bytes hold held taken = record {
     says = record { short = omega arith; long = omega arith; is = refl };
-    leaves = sym e;
+    leaves = refl;
   }

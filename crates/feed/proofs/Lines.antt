@@ -16,6 +16,7 @@ use Rattle.turns.specs.Turns.{Turn, turn}
 use Rattle.board.specs.Board.{Whole, boardTurn}
 use Rattle.feed.specs.Feed.{Desk, desk, ended, kept, byteTurn, fed, answered, logOf, Within, AllWithin, ByLines}
 use Rattle.feed.proofs.Bytes.{kept-room, kept-full, byte-ends, byte-holds}
+use Rattle.feed.proofs.Texts.{fed-more}
 
 -- what is kept of a line says what the line says
 line-kept : (line : List ℕ) → lineOf (take 16 line) ≡ lineOf line
@@ -80,13 +81,6 @@ reads [] w line d r h = (rw append-nil r, refl)
 reads (b ∷ bs) w line d r h =
     rw (byte-holds b d (h .0), sym (append-snoc line b bs)) (reads bs w (line ++ b ∷ []) (kept b d) (reads-byte b w
     line d r) (h .1))
-
--- bytes behind bytes
-fed-more : (xs ys : List ℕ) (d : Desk)
-    → fed (xs ++ ys) d ≡ turn (fed xs d .text ++ fed ys (fed xs d .left) .text) (fed ys (fed xs d .left) .left)
-unfolding fed
-fed-more [] ys d = refl
-fed-more (x ∷ xs) ys d = rw (fed-more xs ys (byteTurn x d .left), append-assoc)
 
 -- a line's LF: the board's turn, and the next line starts
 line-ends : (l : List ℕ) (w : Whole) (d : Desk) → Reading w l d

@@ -1,5 +1,5 @@
 -- A log's bytes, one after another: what is held of a line, and the board's turn at its end.
-use Prim.Native.Nat.{ℕ, _+_}
+use Prim.Native.Nat.{ℕ, suc, _+_}
 use mathlib.Core.Path.{_≡_}
 use mathlib.Core.List.{List, [], _∷_, _++_}
 use lib.Dec.{eqb, ltb}
@@ -41,6 +41,14 @@ fed (b ∷ bs) d =
     let t = byteTurn b d in
     let more = fed bs (t .left) in
     turn (t .text ++ more .text) (more .left)
+
+-- how many bytes of a text stand before its first LF, and how many up to it, that with them; where there is none, all
+unfoldable pub before : List ℕ → ℕ
+before [] = 0
+before (b ∷ bs) = pick (eqb b 10) 0 (suc (before bs))
+
+unfoldable pub upTo : List ℕ → ℕ
+upTo t = pick (ltb (before t) (length t)) (before t + 1) (before t)
 
 -- the same by lines, each without its LF; and the bytes of such a log
 unfoldable pub answered : List (List ℕ) → Whole → Turn Whole

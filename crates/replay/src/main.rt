@@ -2,13 +2,14 @@
 //
 // What a byte of the log does and answers is crate feed's; here are reading and printing. It needs the same memory
 // whatever comes in. The input is read to its end, in at most as many turns as a u64 counts: a turn reads once, or
-// takes a byte of what was read.
+// takes what was read up to a line's end.
 use board::Board;
 use board::Step;
 use libc::STDIN_FILENO;
 use libc::STDOUT_FILENO;
 ghost use mathlib.Core.Path.{_≡_};
-ghost use Prim.Native.Nat.{_<_};
+ghost use Prim.Native.Nat.{_+_, _^_, _<_};
+ghost use lib.ListN.{length};
 
 // The board, how many bytes of a line are held, how many of the output wait; how many were read, and how many of those
 // were taken; and the turns that are left, none when the log has ended.
@@ -69,10 +70,10 @@ fn say(step: Step, page: &[u8], out: &mut [u8], waiting: usize) -> usize {
     say_first(page, step.listed, out, at)
 }
 
-// A byte taken, and what it answers put behind what waits.
+// What was read, up to a line's end, taken, and what it answers put behind what waits.
 fn take(
     s: Stand,
-    b: u8,
+    text: &[u8],
     hold: &mut [u8],
     colours: &mut [u8],
     overlays: &mut [u8],
@@ -82,12 +83,13 @@ fn take(
     page: &mut [u8],
     out: &mut [u8],
 ) -> Stand
+    requires { ⌜ s .at + length (now text) < 2 ^ 64 ⌝ }
     ensures { λ r. ⌜ r .turns ≡ s .turns ⌝ }
 {
     let fed = feed::take(
         s.board,
         s.held,
-        b,
+        text,
         hold,
         colours,
         overlays,
@@ -101,6 +103,7 @@ fn take(
     let mut n = s;
     n.board = after;
     n.held = fed.held;
+    n.at = s.at + fed.taken;
     n.waiting = say(step, page, out, s.waiting);
     n
 }
@@ -118,7 +121,7 @@ fn read(s: Stand, chunk: &mut [u8]) -> Stand
     n
 }
 
-// One turn: the next byte of what was read, or else another read.
+// One turn: the next line, or part of one, of what was read, or else another read.
 fn turn(
     s: Stand,
     chunk: &mut [u8],
@@ -135,12 +138,22 @@ fn turn(
     ensures { λ r. ⌜ r .turns < s .turns ⌝ }
 {
     let at = s.at;
-    if at < s.got && at < chunk.len() {
-        let b = chunk[at];
+    let got = s.got;
+    if at < got && got <= chunk.len() {
         let mut n = s;
-        n.at = at + 1;
         n.turns = s.turns - 1;
-        return take(n, b, hold, colours, overlays, queue, map, table, page, out);
+        return take(
+            n,
+            &chunk[at..got],
+            hold,
+            colours,
+            overlays,
+            queue,
+            map,
+            table,
+            page,
+            out,
+        );
     }
     read(s, chunk)
 }
@@ -189,9 +202,11 @@ fn finish(
     out: &mut [u8],
 ) -> Stand {
     if s.held > 0 {
+        let mut n = s;
+        n.at = 0;
         return take(
-            s,
-            b'\n',
+            n,
+            b"\n",
             hold,
             colours,
             overlays,

@@ -3,25 +3,15 @@ use borrow.Author.Needs.{needs}
 use Rattle.replay.proofs.turn.Statement.{statement}
 use Rattle.replay.proofs.turn.Tie as tie
 
-sub-n : tie.Need-sub-n
-sub-n c =
-    omega (
-      arith,
-      c .before .before .before .before .before .before .before .before .before .before .before .before
-          .before .before .pre,
-    )
-
 returns : tie.Need-returns
 returns c =
     omega (
       arith,
       c .before .before .before .before .before .before .before .before .before .before .before .before
-          .before .before .before .before .before .before .before .before .before .before .before .before .before
-          .before
+          .before .before .before .before .before .before .before .before .before .before .before .before .before .before
           .before .before .before .before .before .before .before .before .before .before .before .before .before .pre,
       c
-          .before .before .before .before .before .before .before .before .before .before .before .before .before
-          .before
+          .before .before .before .before .before .before .before .before .before .before .before .before .before .before
           .before .before .take .ensures,
     )
 
@@ -31,8 +21,10 @@ turn-spec =
     (tie.spec
     (λ c. search needs)
     (λ c. search needs)
-    sub-n
+    (λ c. search needs)
+    (λ c. search needs)
     (λ c κs. search needs)
+    (λ c. search needs)
     (λ c. search needs)
     (λ c. search needs)
     (λ c. search needs)
