@@ -201,7 +201,7 @@ fn ten(e: Expanded) -> Text
 {
     match e {
         Expanded::Ten(t) => answers::told(0, News::Ten(t)),
-        Expanded::Refused(n) => answers::told(n, News::Ten(0)),
+        Expanded::Refused => answers::told(9, News::Ten(0)),
     }
 }
 

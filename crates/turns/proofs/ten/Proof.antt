@@ -8,7 +8,7 @@ returns c =
 
 returns-2 : tie.Need-returns-2
 returns-2 c =
-    rw (c .before .before .e2 .given .1) (c .told2 .ensures)
+    rw (c .before .enum-told .given .1) (c .told2 .ensures)
 
 pub ten-spec : {M : Type 1} → statement M
 ten-spec =
