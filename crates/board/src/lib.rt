@@ -45,7 +45,7 @@ fn tick(s: AState) -> ATurn
     ensures { λ r. ⌜ ((colours overlays : List ℕ) → ATook r colours overlays
         (ticked (chipA s colours overlays) (tickA (s .clock)))) ⌝ }
 {
-    let t = hd153108::zk_a_step(s.clock);
+    let t = hd153108_tick::zk_a_step(s.clock);
     let k = t.clock;
     ATurn {
         state: AState { clock: k, ..s },
@@ -60,7 +60,7 @@ pub fn a_line(s: AState, line: Line, colours: &mut [u8], overlays: &mut [u8]) ->
 {
     match line {
         Line::Write(select, byte) => {
-            let r = hd153108::zk_a_write(s, select, byte, colours, overlays);
+            let r = hd153108_write::zk_a_write(s, select, byte, colours, overlays);
             let after = r.state;
             ATurn {
                 state: after,
@@ -68,7 +68,7 @@ pub fn a_line(s: AState, line: Line, colours: &mut [u8], overlays: &mut [u8]) ->
             }
         }
         Line::Read(select) => {
-            let r = hd153108::zk_a_read(s, select, colours, overlays);
+            let r = hd153108_read::zk_a_read(s, select, colours, overlays);
             let after = r.state;
             ATurn {
                 state: after,
@@ -76,7 +76,7 @@ pub fn a_line(s: AState, line: Line, colours: &mut [u8], overlays: &mut [u8]) ->
             }
         }
         Line::Reset => {
-            let r = hd153108::zk_a_reset(s);
+            let r = hd153108_tick::zk_a_reset(s);
             let after = r.state;
             ATurn {
                 state: after,
@@ -164,7 +164,7 @@ pub fn c_line(s: CState, line: Line, table: &mut [u16]) -> CTurn
 {
     match line {
         Line::Write(port, byte) => {
-            let r = rgb640::zk_c_write(s, port, byte, table);
+            let r = rgb640_write::zk_c_write(s, port, byte, table);
             let after = r.state;
             CTurn {
                 state: after,
@@ -172,7 +172,7 @@ pub fn c_line(s: CState, line: Line, table: &mut [u16]) -> CTurn
             }
         }
         Line::Read(port) => {
-            let r = rgb640::zk_c_read(s, port, table);
+            let r = rgb640_read::zk_c_read(s, port, table);
             let after = r.state;
             CTurn {
                 state: after,
@@ -180,7 +180,7 @@ pub fn c_line(s: CState, line: Line, table: &mut [u16]) -> CTurn
             }
         }
         Line::Reset => {
-            let r = rgb640::zk_c_reset(s);
+            let r = rgb640_read::zk_c_reset(s);
             let after = r.state;
             CTurn {
                 state: after,
