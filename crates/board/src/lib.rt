@@ -121,7 +121,7 @@ pub fn b_line(s: BState, line: Line, queue: &mut [u64], map: &mut [u8]) -> BTurn
             }
         }
         Line::Reset => {
-            let r = ms622424_write::zk_b_reset(s, queue);
+            let r = ms622424_blank::zk_b_reset(s, queue);
             let after = r.state;
             BTurn {
                 state: after,
@@ -136,7 +136,7 @@ pub fn b_line(s: BState, line: Line, queue: &mut [u64], map: &mut [u8]) -> BTurn
             }
         }
         Line::Blank(slots) => {
-            let r = ms622424_write::zk_b_blank(s, slots, queue, map);
+            let r = ms622424_blank::zk_b_blank(s, slots, queue, map);
             let after = r.state;
             BTurn {
                 state: after,

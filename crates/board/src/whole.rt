@@ -75,7 +75,7 @@ fn c_given() -> CState {
 // Every state as an accepted reset leaves it; chip A is chosen.
 pub fn start(queue: &mut [u64]) -> Board {
     let a = hd153108_tick::zk_a_reset(a_given());
-    let b = ms622424_write::zk_b_reset(b_given(), queue);
+    let b = ms622424_blank::zk_b_reset(b_given(), queue);
     let c = rgb640_read::zk_c_reset(c_given());
     let a_after = a.state;
     let b_after = b.state;

@@ -4,12 +4,12 @@
 // the rule is `read` of hd153108's specs/Hd153108.antt. Not modelled: as there.
 use hd153108::Answer;
 use hd153108::State;
-use hd153108::accepted;
-use hd153108::next_colour;
-use hd153108::next_overlay;
-use hd153108::port;
-use hd153108::refused;
-use hd153108::standing;
+use hd153108_port::accepted;
+use hd153108_port::next_colour;
+use hd153108_port::next_overlay;
+use hd153108_port::port;
+use hd153108_port::refused;
+use hd153108_port::standing;
 ghost use mathlib.Core.Path.{_≡_};
 ghost use Prim.Native.Nat.{_+_, _*_, _≤_, _<_};
 ghost use lib.ListN.{length, getD};

@@ -5,10 +5,10 @@
 use hd153108::Answer;
 use hd153108::Clock;
 use hd153108::State;
-use hd153108::accepted;
-use hd153108::period_of;
-use hd153108::port;
-use hd153108::registers;
+use hd153108_port::accepted;
+use hd153108_port::period_of;
+use hd153108_port::port;
+use hd153108_port::registers;
 ghost use mathlib.Core.Path.{_≡_};
 ghost use Rattle.hd153108.specs.Hd153108.{clock, reset, tick, stateOutcome, clockOutcome};
 

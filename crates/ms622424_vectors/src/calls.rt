@@ -21,7 +21,7 @@ pub fn fresh() -> State {
 
 // The same after a reset, and the queue as it leaves it; the map keeps what it has.
 fn start(queue: &mut [u64]) -> State {
-    let a = ms622424_write::zk_b_reset(fresh(), queue);
+    let a = ms622424_blank::zk_b_reset(fresh(), queue);
     a.state
 }
 
@@ -96,9 +96,9 @@ pub fn call(s: State, line: &[u8], queue: &mut [u64], map: &mut [u8]) -> State {
         b'r' => answer(line, 5, ms622424_read::zk_b_read(s, a, queue, map)),
         b'b' => {
             let slots = script::long(line, 2);
-            answer(line, 11, ms622424_write::zk_b_blank(s, slots, queue, map))
+            answer(line, 11, ms622424_blank::zk_b_blank(s, slots, queue, map))
         }
-        b'z' => answer(line, 2, ms622424_write::zk_b_reset(s, queue)),
+        b'z' => answer(line, 2, ms622424_blank::zk_b_reset(s, queue)),
         _ => shown(s, line, queue, map),
     }
 }
