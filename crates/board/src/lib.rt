@@ -94,9 +94,9 @@ pub fn start(queue: &mut [u64]) -> Board
         → whole r (a .colours) (a .overlays) (now (queue .exit)) map (c .table) page
         ≡ started a (now (queue .entry)) map c page) ⌝ }
 {
-    let a = hd153108::zk_a_reset(a_given());
-    let b = ms622424_write::zk_b_reset(b_given(), queue);
-    let c = rgb640::zk_c_reset(c_given());
+    let a = hd153108_tick::zk_a_reset(a_given());
+    let b = ms622424_blank::zk_b_reset(b_given(), queue);
+    let c = rgb640_read::zk_c_reset(c_given());
     let a_after = a.state;
     let b_after = b.state;
     let c_after = c.state;

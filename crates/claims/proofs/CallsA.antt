@@ -8,7 +8,7 @@ use Rattle.vocabulary.specs.Outcome.{Outcome, answeredAt}
 use Rattle.hd153108.specs.declared.Clock.{Clock}
 use Rattle.hd153108.specs.declared.State.{State}
 use Rattle.hd153108.specs.declared.Answer.{Answer}
-use Rattle.hd153108.specs.declared.ClockAnswer.{ClockAnswer}
+use Rattle.hd153108_tick.specs.declared.ClockAnswer.{ClockAnswer}
 use Rattle.hd153108.specs.Hd153108.{Chip, chip, accessRefusals, write, read, reset, tickRefusals, tick, pixelRefusals}
 use Rattle.hd153108.specs.Hd153108.{pixelOr, pixel, pixelBytes, outcome, stateOutcome, clockOutcome}
 use Rattle.hd153108_pixel.specs.declared.Shown.{Shown}

@@ -17,7 +17,7 @@ use Rattle.load.specs.Load.{InRange}
 use Rattle.load.proofs.Writes.{write-in-range}
 use Rattle.ms622424.proofs.Access.{lengths-right, ranges-right}
 use Rattle.ms622424_unseen.proofs.Kept.{call-sound}
-use Rattle.rgb640_laws.proofs.Good.{call-keeps-good}
+use Rattle.rgb640.proofs.Good.{call-keeps-good}
 use Rattle.claims.specs.Kept.{NeverLockedOut}
 
 -- ---- chip A

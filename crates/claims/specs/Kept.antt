@@ -12,7 +12,7 @@ use Rattle.load.specs.Load.{InRange}
 use Rattle.ms622424.specs.Ms622424
 use Rattle.ms622424_unseen.specs.Unseen
 use Rattle.rgb640.specs.Rgb640
-use Rattle.rgb640_laws.proofs.Good.{Bytes, Good}
+use Rattle.rgb640.proofs.Good.{Bytes, Good}
 
 -- not refused for its tables or its state
 abbrev pub Clear : Bool → Bool → Type 0

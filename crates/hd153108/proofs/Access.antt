@@ -92,13 +92,21 @@ module _ (c : Chip) where
     unfolding read
     read-arm k e h p = rw (accepted-does 0 c _ (serves k e h), e) p
 
+-- selects 0, 1 and 3 to 7 have a register
+abbrev pub Served : ℕ → Type 0
+Served select = noRegister select ≡ false
+
+pub selects-served : Served 0 × Served 1 × Served 3 × Served 4 × Served 5 × Served 6 × Served 7
+unfolding registerAt
+selects-served = (refl, refl, refl, refl, refl, refl, refl)
+
 -- no select of the match
 abbrev pub Others : ℕ → Type 0
 Others select =
     ((((((Unit {0} × (select ≡ 0 → ⊥)) × (select ≡ 1 → ⊥)) × (select ≡ 3 → ⊥)) × (select ≡ 4 → ⊥)) × (select ≡ 5 → ⊥))
     × (select ≡ 6 → ⊥)) × (select ≡ 7 → ⊥)
 
--- every other select has no register
+-- every other select has none
 pub others : (select : ℕ) → Others select → noRegister select ≡ true
 unfolding registerAt
 others zero h = absurd (h .0 .0 .0 .0 .0 .0 .1 refl)

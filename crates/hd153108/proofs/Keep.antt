@@ -24,6 +24,12 @@ pub tick-refusal-keeps : (k : Clock) → (refusalOf (tickRefusals k) ≡ 0 → �
 unfolding tick
 tick-refusal-keeps k h = refusal-keeps _ 0 k _ h
 
+-- a read of an internal register moves nothing
+pub register-reads-stay : (c : Chip)
+    → (moved readMask c ≡ c) × (moved blinkMask c ≡ c) × (moved overlayControl c ≡ c) × (moved blinkTiming c ≡ c)
+unfolding moved
+register-reads-stay c = (refl, refl, refl, refl)
+
 -- a read keeps both tables
 abbrev pub SameTables : Chip → Chip → Type 0
 SameTables c d = (d .colours ≡ c .colours) × (d .overlays ≡ c .overlays)

@@ -3,7 +3,7 @@
 // Document 01, "The sheet and its calls", decides. The first 4,096 bytes of the input decide: a good sheet has at most
 // 2,134 (proofs/Size.antt of crate sheet). Short reads are joined. It prints one call a line, `w`, select, `=`, byte in
 // hex; or the two lines `refused=8` and `line=`, with the number of the first bad or missing line. The list is made by
-// crate calls; its buffer holds the longest there is, 786 calls.
+// crate sheet_calls; its buffer holds the longest there is, 786 calls.
 ghost use mathlib.Core.Path.{_≡_};
 ghost use mathlib.Core.List.{[], _∷_};
 ghost use Prim.Native.Nat.{_/_, _%_};
@@ -51,7 +51,7 @@ fn main() {
     let mut text = [0u8; 4096];
     let n = io::read_full(STDIN_FILENO, &mut text);
     let mut calls = [0u8; 1572];
-    let answer = calls::sheet_calls(&text[..n], &mut calls);
+    let answer = sheet_calls::sheet_calls(&text[..n], &mut calls);
     match answer {
         Answer::Done(count) => show_calls(&calls, count),
         Answer::Refused(refusal, line) => show_refusal(refusal, line),

@@ -10,7 +10,7 @@ use lib.Seq.{drop-cons}
 use lib.Dec.{eqb, leb, ltb}
 use borrow.Author.Tests.{ltb-true, lt-ltb, le-ltb, le-leb, lt-leb, eq-eqb, ne-eqb}
 use Rattle.vocabulary.proofs.Choice.{picks-first, picks-second}
-use Rattle.sheet.proofs.Starts.{both}
+use Rattle.vocabulary.proofs.Range.{both}
 use Rattle.log.specs.declared.Line.{Line}
 use Rattle.log.specs.declared.Line.the-variants.{To, Expand, Bad}
 use Rattle.log.specs.declared.Call.the-variants.{OfA}

@@ -43,7 +43,7 @@ pub extern "C" fn zk_b_pixel(s: State, mode: u8, word: u32, queue: &[u64], map: 
     ensures { λ r. ⌜ showing r (chip s (now (queue .entry)) (now (map .entry)))
         ≡ pixel mode word (chip s (now (queue .entry)) (now (map .entry))) ⌝ }
 {
-    let refusal = ms622424::range::standing_tables(s, queue, map.len());
+    let refusal = ms622424_port::range::standing_tables(s, queue, map.len());
     if refusal != 0 {
         return refused(refusal);
     }
@@ -78,12 +78,12 @@ pub extern "C" fn zk_b_sync(s: State, signals: u8, queue: &[u64]) -> Answer
     ensures { λ r. ⌜ ((m : List ℕ) → outcome r (now (queue .entry)) m
         ≡ sync signals (chip s (now (queue .entry)) m)) ⌝ }
 {
-    let refusal = ms622424::range::standing_queue(s, queue);
+    let refusal = ms622424_port::range::standing_queue(s, queue);
     if refusal != 0 {
-        return ms622424::refused(refusal, s);
+        return ms622424_port::refused(refusal, s);
     }
     if 15 < signals {
-        return ms622424::refused(9, s);
+        return ms622424_port::refused(9, s);
     }
-    ms622424::accepted(piped(s.command, signals), 0, s)
+    ms622424_port::accepted(piped(s.command, signals), 0, s)
 }

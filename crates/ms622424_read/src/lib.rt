@@ -4,8 +4,8 @@
 // specs/Ms622424.antt says it (`read`). Not modelled: the pixels that a read of the map disturbs.
 use ms622424::Answer;
 use ms622424::State;
-use ms622424::accepted;
-use ms622424::refused;
+use ms622424_port::accepted;
+use ms622424_port::refused;
 ghost use mathlib.Core.Path.{_≡_};
 ghost use Prim.Native.Nat.{_+_, _*_, _<_, _≤_};
 ghost use lib.ListN.{length, getD};
@@ -38,7 +38,7 @@ fn read_palette(s: State, map: &[u8]) -> Answer
         (stepped (selected (s .counter)) s) ⌝ }
 {
     let at = 3 * (s.address as usize) + (s.counter as usize);
-    accepted(map[at], 0, ms622424::step(s))
+    accepted(map[at], 0, ms622424_port::step(s))
 }
 
 // A read of a select.
@@ -47,7 +47,7 @@ pub extern "C" fn zk_b_read(s: State, select: u8, queue: &[u64], map: &[u8]) -> 
     ensures { λ r. ⌜ outcome r (now (queue .entry)) (now (map .entry))
         ≡ read select (chip s (now (queue .entry)) (now (map .entry))) ⌝ }
 {
-    let refusal = ms622424::range::standing_tables(s, queue, map.len());
+    let refusal = ms622424_port::range::standing_tables(s, queue, map.len());
     if refusal != 0 {
         return refused(refusal, s);
     }

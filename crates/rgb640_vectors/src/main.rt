@@ -1,27 +1,116 @@
 // Prints document 01's vectors of chip C and the smallest example of each of its rulings: a label, then the answers.
 //
-// stdout was worked out by hand from document 01 and source document 001. An answer is the refusal and the value in
-// hex. The lent table has 4i + 1 at its place i, so that entry e reads as 3e, 3e + 1 and 3e + 2 modulo 256, and most
-// of its numbers are beyond 1,023. A given state has latches 5 and 6.
-mod access;
-mod calls;
-mod order;
+// stdin is the list of calls, and stdout was worked out by hand from document 01 and source document 001. An answer is
+// the refusal and the value in hex. A line of stdin is a letter, numbers of two or four (*) hex digits, each behind a
+// space, and a label where something is printed below it:
+//   # a label alone
+//   t the lent table: 4i + 1 at its place i, so that entry e reads as 3e, 3e + 1 and 3e + 2 modulo 256, and most of its
+//     numbers are beyond 1,023
+//   n how many of its numbers are lent from here on*
+//   s the state: index*, place, register 0x000E, fetched red*, green* and blue*; its latches are 5 and 6
+//   w write: port, byte; r read: port; z reset: an answer behind those of the same line
+//   . the end of a line of answers
+//   e an entry of the table*                     i the index and the place
+//   f the fetched entry                          l the latches and register 0x000E
 mod print;
 
+use libc::STDIN_FILENO;
+use print::answer;
+use rgb640::Colour;
+use rgb640::State;
+
+// The chip's state, and how many numbers of the table are lent.
+struct Bench {
+    state: State,
+    size: usize,
+}
+
+fn fill(t: &mut [u16]) {
+    for i in 0..t.len() {
+        t[i] = (i % 3072 * 4 + 1) as u16;
+    }
+}
+
+fn given(line: &[u8]) -> State {
+    let f = Colour {
+        red: script::word(line, 13),
+        green: script::word(line, 18),
+        blue: script::word(line, 23),
+    };
+    State {
+        index: script::word(line, 2),
+        red: 5,
+        green: 6,
+        fetched: f,
+        place: script::byte(line, 7),
+        update: script::byte(line, 10),
+    }
+}
+
+// A line that asks nothing of the table.
+fn alone(s: State, line: &[u8]) -> State {
+    match script::command(line) {
+        b's' => return given(line),
+        b'z' => return answer(rgb640_read::zk_c_reset(s)),
+        b'.' => print::end(),
+        b'i' => print::place(line, s),
+        b'f' => print::fetched(line, s),
+        b'l' => print::latches(line, s),
+        _ => print::label(line, 2),
+    }
+    s
+}
+
+fn access(s: State, line: &[u8], table: &mut [u16]) -> State {
+    let port = script::byte(line, 2);
+    match script::command(line) {
+        b'w' => answer(rgb640_write::zk_c_write(s, port, script::byte(line, 5), table)),
+        b'r' => answer(rgb640_read::zk_c_read(s, port, table)),
+        _ => alone(s, line),
+    }
+}
+
+// An access of what is lent.
+fn lent(b: Bench, line: &[u8], table: &mut [u16]) -> State {
+    let s = b.state;
+    let size = b.size;
+    if size <= table.len() {
+        return access(s, line, &mut table[..size]);
+    }
+    s
+}
+
+fn turn(b: Bench, line: &[u8], table: &mut [u16]) -> Bench {
+    let number = script::word(line, 2) as usize;
+    match script::command(line) {
+        b'n' => return Bench { size: number, ..b },
+        b't' => fill(table),
+        b'e' => print::entry(line, table, number),
+        _ => {
+            let next = lent(b, line, table);
+            return Bench { state: next, ..b };
+        }
+    }
+    b
+}
+
+fn run(text: &[u8], start: Bench, table: &mut [u16]) {
+    let mut b = start;
+    let mut at = 0;
+    while at < text.len() {
+        let to = script::end(text, at);
+        b = turn(b, &text[at..to], table);
+        at = to + 1;
+    }
+}
+
 fn main() {
-    order::write_wraps();
-    order::read_wraps();
-    order::port_four_alone();
-    order::read_increment_off();
-    order::write_increment_off();
-    order::store_unseen();
-    access::third_write();
-    access::latched();
-    access::register();
-    access::ports();
-    access::reset();
-    access::indexes();
-    access::refusals();
-    access::ranges();
-    access::lengths();
+    let mut text = [0u8; 4096];
+    let n = io::read_full(STDIN_FILENO, &mut text);
+    let mut table = [0u16; 3072];
+    let start = Bench {
+        state: given(b""),
+        size: 3072,
+    };
+    run(&text[..n], start, &mut table);
 }

@@ -3,8 +3,9 @@ use libc::STDOUT_FILENO;
 use rgb640::Answer;
 use rgb640::State;
 
-pub fn label(text: &[u8]) {
-    io::write_all(STDOUT_FILENO, text);
+// The label of a line, which stands there from a place on.
+pub fn label(line: &[u8], at: usize) {
+    script::rest(line, at);
     end();
 }
 
@@ -22,8 +23,7 @@ fn hex(n: u16, width: usize) {
     io::print_hex(STDOUT_FILENO, n as u64, width);
 }
 
-fn three(text: &[u8], a: u16, b: u16, c: u16) {
-    label(text);
+fn three(a: u16, b: u16, c: u16) {
     decimal(a);
     decimal(b);
     decimal(c);
@@ -40,16 +40,16 @@ pub fn answer(a: Answer) -> State {
 }
 
 // The index and the place.
-pub fn place(text: &[u8], s: State) {
-    label(text);
+pub fn place(line: &[u8], s: State) {
+    label(line, 2);
     hex(s.index, 4);
     decimal(s.place as u16);
     end();
 }
 
 // The latches and register 0x000E.
-pub fn latches(text: &[u8], s: State) {
-    label(text);
+pub fn latches(line: &[u8], s: State) {
+    label(line, 2);
     decimal(s.red);
     decimal(s.green);
     hex(s.update as u16, 2);
@@ -57,17 +57,19 @@ pub fn latches(text: &[u8], s: State) {
 }
 
 // The fetched entry.
-pub fn fetched(text: &[u8], s: State) {
+pub fn fetched(line: &[u8], s: State) {
+    label(line, 2);
     let f = s.fetched;
-    three(text, f.red, f.green, f.blue);
+    three(f.red, f.green, f.blue);
 }
 
 // An entry of the table, as it stands.
-pub fn entry(text: &[u8], t: &[u16], e: usize) {
+pub fn entry(line: &[u8], t: &[u16], e: usize) {
+    label(line, 7);
     if e < 1024 {
         let at = 3 * e;
         if at + 2 < t.len() {
-            three(text, t[at], t[at + 1], t[at + 2]);
+            three(t[at], t[at + 1], t[at + 2]);
         }
     }
 }

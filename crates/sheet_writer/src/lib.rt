@@ -112,7 +112,7 @@ pub fn write_sheet<'a>(s: State, colours: &'a [u8], overlays: &'a [u8], out: &mu
     ensures { λ r. ⌜ outcome r (now (out .exit))
         ≡ write (chip s (now (colours .entry)) (now (overlays .entry))) (now (out .entry)) ⌝ }
 {
-    let refusal = hd153108::standing(s, colours.len(), overlays.len());
+    let refusal = hd153108_port::standing(s, colours.len(), overlays.len());
     if refusal != 0 {
         return Answer::Refused(refusal, 0);
     }

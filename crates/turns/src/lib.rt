@@ -80,7 +80,7 @@ fn a_own(s: AState, call: CallA, colours: &mut [u8], overlays: &mut [u8]) -> ATu
 {
     match call {
         CallA::Tick => {
-            let t = hd153108::zk_a_step(s.clock);
+            let t = hd153108_tick::zk_a_step(s.clock);
             let k = t.clock;
             ATurn {
                 state: AState { clock: k, ..s },
@@ -104,14 +104,14 @@ pub fn a_turn(s: AState, call: Call, colours: &mut [u8], overlays: &mut [u8]) ->
 {
     match call {
         Call::Write(select, byte) => {
-            let r = hd153108::zk_a_write(s, select, byte, colours, overlays);
+            let r = hd153108_write::zk_a_write(s, select, byte, colours, overlays);
             a_told(r, News::Nothing)
         }
         Call::Read(select) => {
-            let r = hd153108::zk_a_read(s, select, colours, overlays);
+            let r = hd153108_read::zk_a_read(s, select, colours, overlays);
             a_told(r, News::Value(r.value))
         }
-        Call::Reset => a_told(hd153108::zk_a_reset(s), News::Nothing),
+        Call::Reset => a_told(hd153108_tick::zk_a_reset(s), News::Nothing),
         Call::OfA(own) => a_own(s, own, colours, overlays),
         Call::OfB(_) => ATurn {
             state: s,
@@ -134,7 +134,7 @@ fn b_own(s: BState, call: CallB, queue: &mut [u64], map: &mut [u8]) -> BTurn
             }
         }
         CallB::Blank(slots) => {
-            let r = ms622424_write::zk_b_blank(s, slots, queue, map);
+            let r = ms622424_blank::zk_b_blank(s, slots, queue, map);
             b_told(r, News::Moved(r.count))
         }
         CallB::Sync(signals) => {
@@ -158,7 +158,7 @@ pub fn b_turn(s: BState, call: Call, queue: &mut [u64], map: &mut [u8]) -> BTurn
             let r = ms622424_read::zk_b_read(s, select, queue, map);
             b_told(r, News::Value(r.value))
         }
-        Call::Reset => b_told(ms622424_write::zk_b_reset(s, queue), News::Nothing),
+        Call::Reset => b_told(ms622424_blank::zk_b_reset(s, queue), News::Nothing),
         Call::OfA(_) => BTurn {
             state: s,
             text: answers::bad(),
@@ -183,14 +183,14 @@ pub fn c_turn(s: CState, call: Call, table: &mut [u16]) -> CTurn
 {
     match call {
         Call::Write(port, byte) => {
-            let r = rgb640::zk_c_write(s, port, byte, table);
+            let r = rgb640_write::zk_c_write(s, port, byte, table);
             c_told(r, News::Nothing)
         }
         Call::Read(port) => {
-            let r = rgb640::zk_c_read(s, port, table);
+            let r = rgb640_read::zk_c_read(s, port, table);
             c_told(r, News::Value(r.value))
         }
-        Call::Reset => c_told(rgb640::zk_c_reset(s), News::Nothing),
+        Call::Reset => c_told(rgb640_read::zk_c_reset(s), News::Nothing),
         Call::OfA(_) => c_bad(s),
         Call::OfB(_) => c_bad(s),
     }

@@ -12,11 +12,11 @@ abbrev μ-loop : tie.MeasureT-loop
 loop-holds : tie.Need-loop-holds Inv-loop μ-loop
 loop-holds c = search needs
 
-slice-aggregate-write-all : tie.Need-slice-aggregate-write-all Inv-loop μ-loop
-slice-aggregate-write-all c = search needs
+slice-aggregate-text : tie.Need-slice-aggregate-text Inv-loop μ-loop
+slice-aggregate-text c = search needs
 
-write-all-requires : tie.Need-write-all-requires Inv-loop μ-loop
-write-all-requires c κs = search needs
+text-requires : tie.Need-text-requires Inv-loop μ-loop
+text-requires c κs = search needs
 
 shared-slice-read-hex : tie.Need-shared-slice-read-hex Inv-loop μ-loop
 shared-slice-read-hex c = search needs
@@ -33,11 +33,11 @@ loop-less c = search needs
 loop-again : tie.Need-loop-again Inv-loop μ-loop
 loop-again c = search needs
 
-slice-aggregate-write-all-2 : tie.Need-slice-aggregate-write-all-2 Inv-loop μ-loop
-slice-aggregate-write-all-2 c = search needs
+slice-aggregate-text-2 : tie.Need-slice-aggregate-text-2 Inv-loop μ-loop
+slice-aggregate-text-2 c = search needs
 
-write-all-requires-2 : tie.Need-write-all-requires-2 Inv-loop μ-loop
-write-all-requires-2 c κs = search needs
+text-requires-2 : tie.Need-text-requires-2 Inv-loop μ-loop
+text-requires-2 c κs = search needs
 
 returns : tie.Need-returns Inv-loop μ-loop
 returns c = search needs
@@ -49,13 +49,13 @@ bytes-spec =
     Inv-loop
     μ-loop
     loop-holds
-    slice-aggregate-write-all
-    write-all-requires
+    slice-aggregate-text
+    text-requires
     shared-slice-read-hex
     hex-requires
     add-i
     loop-less
     loop-again
-    slice-aggregate-write-all-2
-    write-all-requires-2
+    slice-aggregate-text-2
+    text-requires-2
     returns)

@@ -1,0 +1,132 @@
+// The HD153108 (chip A): what its calls share. The answers, the ranges that every call tries first, the blink clock's
+// times, the address after blue.
+//
+// Source document 003, with document 01's rulings, decides; hd153108's specs/Hd153108.antt says it. Not modelled: as
+// there.
+use hd153108::Answer;
+use hd153108::Clock;
+use hd153108::State;
+ghost use mathlib.Core.Path.{_≡_};
+ghost use Rattle.vocabulary.specs.Range.{meets, fails};
+ghost use Rattle.vocabulary.specs.Refusal.{refusalOf, standing as standingRows};
+ghost use Rattle.vocabulary.specs.Outcome.{accepting, refusing};
+ghost use Rattle.hd153108.specs.Hd153108.{colour, overlay, next, onTime, period, isOff, lengths, ranges};
+ghost use Rattle.hd153108.specs.Hd153108.{port as portOf, registers as registersOf, stateOutcome};
+
+// A call that is refused, and one that is accepted.
+pub fn refused(n: u8, s: State) -> Answer
+    ensures { λ r. ⌜ stateOutcome r ≡ refusing n 0 s ⌝ }
+{
+    Answer {
+        refusal: n,
+        value: 0,
+        state: s,
+    }
+}
+
+pub fn accepted(v: u8, s: State) -> Answer
+    ensures { λ r. ⌜ stateOutcome r ≡ accepting v 0 s ⌝ }
+{
+    Answer {
+        refusal: 0,
+        value: v,
+        state: s,
+    }
+}
+
+// The state with another address, pointer, latched red and latched green.
+pub fn port(s: State, address: u8, pointer: u8, red: u8, green: u8) -> State
+    ensures { λ r. ⌜ r ≡ portOf s address pointer red green ⌝ }
+{
+    State {
+        address: address,
+        pointer: pointer,
+        red: red,
+        green: green,
+        ..s
+    }
+}
+
+// The state with other registers.
+pub fn registers(s: State, read: u8, blink: u8, control: u8, k: Clock) -> State
+    ensures { λ r. ⌜ r ≡ registersOf s read blink control k ⌝ }
+{
+    State {
+        readmask: read,
+        blinkmask: blink,
+        control: control,
+        clock: k,
+        ..s
+    }
+}
+
+// On for 4(n+1) ticks, n the low four bits.
+fn on_time(timing: u8) -> u8
+    ensures { λ r. ⌜ r ≡ onTime timing ⌝ }
+{
+    4 * (timing % 16 + 1)
+}
+
+// And off for 4(m+1), m the high four.
+pub fn period_of(timing: u8) -> u8
+    ensures { λ r. ⌜ r ≡ period timing ⌝ }
+{
+    on_time(timing) + 4 * (timing / 16 + 1)
+}
+
+// Whether a blink clock is in its off time.
+pub fn blink_off(k: Clock) -> bool
+    ensures { λ r. ⌜ r ≡ isOff k ⌝ }
+{
+    on_time(k.timing) <= k.position
+}
+
+// Whether a state is in its ranges.
+fn good(s: State) -> bool
+    ensures { λ r. ⌜ r ≡ meets (ranges s) ⌝ }
+{
+    if 3 <= s.pointer {
+        return false;
+    }
+    if 16 <= s.red {
+        return false;
+    }
+    if 16 <= s.green {
+        return false;
+    }
+    if s.control & 176 != 0 {
+        return false;
+    }
+    let k = s.clock;
+    k.position < period_of(k.timing)
+}
+
+// What every call tries first: the lengths of the lent tables, then the state's ranges.
+pub fn standing(s: State, colours: usize, overlays: usize) -> u8
+    ensures { λ r. ⌜ r ≡ refusalOf (standingRows (fails (lengths colours overlays)) (fails (ranges s))) ⌝ }
+{
+    if colours != 768 {
+        return 1;
+    }
+    if overlays != 12 {
+        return 1;
+    }
+    if !good(s) {
+        return 9;
+    }
+    0
+}
+
+// The address after an access to blue.
+pub fn next_colour(address: u8) -> u8
+    ensures { λ r. ⌜ r ≡ next colour address ⌝ }
+{
+    std::num::wrapping_add_u8(address, 1)
+}
+
+pub fn next_overlay(address: u8) -> u8
+    ensures { λ r. ⌜ r ≡ next overlay address ⌝ }
+{
+    let low = address % 4;
+    address - low + (low + 1) % 4
+}

@@ -1,4 +1,0 @@
-pub mod Entry
-pub mod Good
-pub mod Keeps
-pub mod ReadBack

@@ -1,0 +1,96 @@
+// Chip C, the palette port of the RGB640: a byte written to a port.
+//
+// Source document 001, sections 9.1, 9.4.1 and 10.15, and document 01, "Chip C", decide; the rule is `write` of rgb640's
+// specs/Rgb640.antt. Not modelled: as there.
+use rgb640::Answer;
+use rgb640::State;
+use rgb640_port::accepted;
+use rgb640_port::prefetch;
+use rgb640_port::refused;
+use rgb640_port::restart;
+use rgb640_port::standing_of;
+ghost use mathlib.Core.Path.{_≡_};
+ghost use lib.ListN.{length};
+ghost use Rattle.vocabulary.specs.Range.{Holds};
+ghost use Rattle.rgb640.specs.Rgb640.{chip, colour, ranges, standingOf, paletteWrite, offset, put, dataWritten};
+ghost use Rattle.rgb640.specs.Rgb640.{leaving, write};
+
+// A colour stored at the entry of an index.
+fn store(index: u16, red: u16, green: u16, blue: u16, table: &mut [u16])
+    requires { ⌜ length (now table) ≡ 3072 ⌝ }
+    ensures { λ _. ⌜ now (table .exit) ≡ put (offset index) (colour red green blue) (now (table .entry)) ⌝ }
+{
+    let at = 3 * ((index % 1024) as usize);
+    table[at] = red;
+    table[at + 1] = green;
+    table[at + 2] = blue;
+}
+
+// A byte to the palette, by its place in the order.
+fn palette_write(s: State, byte: u8, table: &mut [u16]) -> State
+    requires { ⌜ (length (now table) ≡ 3072) × Holds (ranges s) ⌝ }
+    ensures { λ r. ⌜ chip r (now (table .exit)) ≡ dataWritten paletteWrite byte (chip s (now (table .entry))) ⌝ }
+{
+    let place = s.place;
+    let v = expand::eight(byte);
+    let mut n = s;
+    match place {
+        0 => {
+            n.red = v;
+            n.place = 1;
+            n
+        }
+        1 => {
+            n.green = v;
+            n.place = 2;
+            n
+        }
+        _ => {
+            store(s.index, s.red, s.green, v, table);
+            restart(s, 2, table)
+        }
+    }
+}
+
+// A write of port 6, where the table and the state stand.
+fn data_write(s: State, byte: u8, table: &mut [u16]) -> Answer
+    requires { ⌜ standingOf (length (now table)) s ≡ 0 ⌝ }
+    ensures { λ r. ⌜ leaving r (now (table .exit)) ≡ write 6 byte (chip s (now (table .entry))) ⌝ }
+{
+    let index = s.index;
+    match index {
+        0x000E => {
+            let mut n = s;
+            n.update = byte;
+            accepted(0, n)
+        }
+        0x4000..=0x43FF => accepted(0, palette_write(s, byte, table)),
+        _ => refused(4, s),
+    }
+}
+
+// A byte written to a port.
+#[no_mangle]
+pub extern "C" fn zk_c_write(s: State, port: u8, byte: u8, table: &mut [u16]) -> Answer
+    ensures { λ r. ⌜ leaving r (now (table .exit)) ≡ write port byte (chip s (now (table .entry))) ⌝ }
+{
+    let refusal = standing_of(s, table.len());
+    if refusal != 0 {
+        return refused(refusal, s);
+    }
+    let index = s.index;
+    let mut n = s;
+    match port {
+        4 => {
+            n.index = index / 256 * 256 + (byte as u16);
+            accepted(0, n)
+        }
+        5 => {
+            n.index = (byte as u16) * 256 + index % 256;
+            n.place = 0;
+            accepted(0, prefetch(n, table))
+        }
+        6 => data_write(s, byte, table),
+        _ => refused(3, s),
+    }
+}
