@@ -8,10 +8,8 @@ use lib.Dec.{ltb}
 use lib.ListN.{length, take, set, length-append, length-set}
 use lib.Seq.{length-take-le, take-suc-set}
 use borrow.Author.Tests.{lt-ltb, le-ltb}
-use Rattle.vocabulary.specs.Choice.{pick}
 use Rattle.vocabulary.proofs.Choice.{picks-first, picks-second, cases}
 use Rattle.sheet.specs.Sheet.{hex, hexDigit}
-use Rattle.sheet.proofs.Texts.{length-hex}
 use Rattle.answers.specs.declared.Text.{Text}
 use Rattle.answers.specs.Answers.{decimal, told, refusedText, Says, Adds}
 

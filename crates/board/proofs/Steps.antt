@@ -1,13 +1,12 @@
 -- What a step answers: a text alone, or the page that the sheet writer filled. Assumes nothing.
-use Prim.Native.Nat.{ℕ, zero, suc, _+_, _≤_}
-use mathlib.Core.Path.{_≡_, refl, sym, ap, _∙_}
-use mathlib.Core.List.{List, [], _∷_, _++_, append-nil}
+use Prim.Native.Nat.{ℕ}
+use mathlib.Core.Path.{_≡_, sym, ap, _∙_}
+use mathlib.Core.List.{List, [], append-nil}
 use native.Mathlib.Omega.{arith}
 use lib.ListN.{length, take, length-append}
 use lib.Seq.{take-append-seam}
 use Rattle.vocabulary.specs.Choice.{pick}
-use Rattle.vocabulary.specs.Refusal.{refusalOf}
-use Rattle.vocabulary.specs.Outcome.{Outcome, accepting, refusing, answeredAt}
+use Rattle.vocabulary.specs.Outcome.{Outcome, accepting, refusing}
 use Rattle.vocabulary.proofs.Outcome.{accepted-does, accepted-none}
 use Rattle.hd153108.specs.Hd153108.{Chip}
 use Rattle.sheet.specs.Sheet.{keyAt, front, lineText, values, textFrom, textOf, pasted, write}
@@ -36,18 +35,18 @@ text-counts a e = omega (arith, e)
 
 module _ (a : Chip) (page : List ℕ) (n : ℕ) (out : List ℕ) where
   -- an accepted sheet stands on the page
-  pub says-page : (b : Board) (bytes : List ℕ) → accepting 0 n out ≡ write a page
-      → Answers (step b (record { bytes = bytes; len = 0 }) n) out (told 0 (textOf a))
+  pub says-page : (b : Board) (t : Text) → Says t [] → accepting 0 n out ≡ write a page
+      → Answers (step b t n) out (told 0 (textOf a))
   unfolding write told pasted
-  says-page b bytes e =
+  says-page b t s e =
       let r = ap (λ (o : Outcome (List ℕ)). o .refusal) e in
       let d = e ∙ accepted-does 0 page _ (accepted-none _ 0 page _ (sym r)) in
       let count : n ≡ length (textOf a) = ap (λ (o : Outcome (List ℕ)). o .count) d in
       let left = ap (λ (o : Outcome (List ℕ)). o .left) d in
       record {
-        short = omega arith;
+        short = rw (s .whole) (s .inside);
         long = rw (count, left, length-append) (omega arith);
-        is = rw (count, left) (take-append-seam (textOf a) _);
+        is = rw (s .is, count, left) (take-append-seam (textOf a) _);
       }
 
   -- and a refusal of the writer has a number

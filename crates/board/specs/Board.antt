@@ -4,11 +4,9 @@ use mathlib.Core.Path.{_≡_}
 use mathlib.Core.List.{List, _++_}
 use lib.ListN.{length, take}
 use Rattle.hd153108.specs.Hd153108 as A
-use Rattle.hd153108.specs.declared.State as AS
 use Rattle.ms622424.specs.Ms622424 as B
 use Rattle.ms622424.specs.declared.State as BS
 use Rattle.rgb640.specs.Rgb640 as C
-use Rattle.rgb640.specs.declared.State as CS
 use Rattle.sheet.specs.Sheet.{write, textOf}
 use Rattle.log.specs.declared.Chip.{Chip}
 use Rattle.log.specs.declared.Chip.the-variants.{ChipA, ChipB, ChipC}

@@ -229,18 +229,11 @@ fn list(board: Board, colours: &mut [u8], overlays: &mut [u8], page: &mut [u8]) 
 {
     let answer = sheet_writer::write_sheet(board.a, colours, overlays, page);
     match answer {
-        Answer::Done(n) => {
-            let bytes = [0u8; 16];
-            let nothing = Text {
-                bytes: bytes,
-                len: 0,
-            };
-            Step {
-                board: board,
-                text: nothing,
-                listed: n as usize,
-            }
-        }
+        Answer::Done(n) => Step {
+            board: board,
+            text: answers::empty(),
+            listed: n as usize,
+        },
         Answer::Refused(n, _) => Step {
             board: board,
             text: answers::refused(n),

@@ -1,8 +1,7 @@
 -- One byte: held, or the end of a line. Assumes nothing.
 use Prim.Native.Nat.{ℕ, _+_, _≤_, _<_}
-use mathlib.Core.Path.{_≡_, refl, sym, ap}
-use mathlib.Core.List.{List, [], _∷_}
-use native.Mathlib.Omega.{arith}
+use mathlib.Core.Path.{_≡_, refl, ap}
+use mathlib.Core.List.{List, []}
 use lib.ListN.{length, take, set}
 use borrow.Author.Tests.{lt-ltb, le-ltb, eq-eqb, ne-eqb}
 use Rattle.vocabulary.proofs.Choice.{picks-first, picks-second}
@@ -12,6 +11,9 @@ use Rattle.turns.specs.Turns.{Turn, turn}
 use Rattle.board.specs.declared.Board.{Board}
 use Rattle.board.specs.declared.Step.{Step}
 use Rattle.board.specs.Board as B
+use Rattle.board.proofs.Steps.{says-text}
+use Rattle.answers.specs.declared.Text.{Text}
+use Rattle.answers.specs.Answers.{Says}
 use Rattle.feed.specs.declared.Fed.{Fed}
 use Rattle.feed.specs.Feed.{Desk, desk, ended, kept, byteTurn, Took}
 
@@ -46,16 +48,7 @@ module _ {colours overlays queue map table page : List ℕ} where
       let u = rw e at t in
       record { says = u .says; leaves = ap (λ (x : B.Whole). desk x hold 0) (u .leaves) }
 
-  pub took-silent : (board : Board) (bytes hold : List ℕ) (held taken : ℕ)
-      → Took
-      (record {
-        step = record { board = board; text = record { bytes = bytes; len = 0 }; listed = 0 };
-        held = held;
-        taken = taken;
-      })
-      hold colours overlays queue map table page
-      (turn [] (desk (B.whole board colours overlays queue map table page) hold held))
-  took-silent board bytes hold held taken = record {
-    says = record { short = omega arith; long = omega arith; is = refl };
-    leaves = refl;
-  }
+  pub took-silent : (board : Board) (t : Text) (hold : List ℕ) (held taken : ℕ) → Says t []
+      → Took (record { step = record { board = board; text = t; listed = 0 }; held = held; taken = taken }) hold colours
+      overlays queue map table page (turn [] (desk (B.whole board colours overlays queue map table page) hold held))
+  took-silent board t hold held taken s = record { says = says-text board t page s; leaves = refl }

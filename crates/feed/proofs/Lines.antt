@@ -1,6 +1,6 @@
 -- A log by lines: with room for 16 bytes, a line of any length and its LF are answered as the line that it is, since no
 -- form has 16 bytes. Assumes nothing.
-use Prim.Native.Nat.{ℕ, zero, suc, _+_, _≤_, _<_}
+use Prim.Native.Nat.{ℕ, _+_, _≤_, _<_}
 use mathlib.Core.Path.{_≡_, refl, sym, ap, _∙_}
 use mathlib.Core.List.{List, [], _∷_, _++_, append-nil, append-assoc}
 use native.Mathlib.Numerals.{add-one}
@@ -14,7 +14,7 @@ use Rattle.log.specs.Log.{lineOf}
 use Rattle.log.proofs.Patterns.{line-long}
 use Rattle.turns.specs.Turns.{Turn, turn}
 use Rattle.board.specs.Board.{Whole, boardTurn}
-use Rattle.feed.specs.Feed.{Desk, desk, ended, kept, byteTurn, fed, answered, logOf, Within, AllWithin, ByLines}
+use Rattle.feed.specs.Feed.{Desk, desk, kept, byteTurn, fed, answered, logOf, Within, AllWithin, ByLines}
 use Rattle.feed.proofs.Bytes.{kept-room, kept-full, byte-ends, byte-holds}
 use Rattle.feed.proofs.Texts.{fed-more}
 

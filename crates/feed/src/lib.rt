@@ -5,7 +5,6 @@
 // room. No form has 16 bytes, so that a room of 16 is enough: proofs/Lines.antt shows that a line of any length is then
 // answered as the line that it is. Not modelled: where the bytes come from and where the answers go, which is the
 // program's.
-use answers::Text;
 use board::Board;
 use board::Step;
 use log::Line;
@@ -110,14 +109,9 @@ pub fn take(
             taken: kept.taken,
         };
     }
-    let bytes = [0u8; 16];
-    let nothing = Text {
-        bytes: bytes,
-        len: 0,
-    };
     let step = Step {
         board: board,
-        text: nothing,
+        text: answers::empty(),
         listed: 0,
     };
     Fed {

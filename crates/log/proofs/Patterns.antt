@@ -1,5 +1,5 @@
 -- Lines and patterns, byte by byte, and the first form that a line has. Assumes nothing.
-use Prim.Native.Nat.{ℕ, zero, suc, _+_, _≤_, _<_}
+use Prim.Native.Nat.{ℕ, suc, _+_, _≤_, _<_}
 use mathlib.Core.Path.{_≡_, refl, sym, ap, _∙_}
 use mathlib.Core.Bool.{Bool, true, false, _&&_}
 use mathlib.Core.List.{List, [], _∷_}
@@ -11,7 +11,6 @@ use lib.Dec.{eqb, leb, ltb}
 use borrow.Author.Tests.{ltb-true, lt-ltb, le-ltb, le-leb, lt-leb, eq-eqb, ne-eqb}
 use Rattle.vocabulary.proofs.Choice.{picks-first, picks-second}
 use Rattle.vocabulary.proofs.Range.{both}
-use Rattle.log.specs.declared.Line.{Line}
 use Rattle.log.specs.declared.Line.the-variants.{To, Expand, Bad}
 use Rattle.log.specs.declared.Call.the-variants.{OfA}
 use Rattle.log.specs.declared.CallA.the-variants.{Pixel}

@@ -22,6 +22,18 @@ struct Stand {
     turns: u64,
 }
 
+// Nothing read yet.
+fn begun(board: Board) -> Stand {
+    Stand {
+        board: board,
+        held: 0,
+        waiting: 0,
+        got: 0,
+        at: 0,
+        turns: u64::MAX,
+    }
+}
+
 // Prints what waits.
 fn flush(out: &[u8], waiting: usize) {
     if waiting <= out.len() {
@@ -231,16 +243,8 @@ fn main() {
     let mut page = [0u8; 2134];
     let mut out = [0u8; 65536];
     let board = board::start(&mut queue);
-    let start = Stand {
-        board: board,
-        held: 0,
-        waiting: 0,
-        got: 0,
-        at: 0,
-        turns: u64::MAX,
-    };
     let end = replay(
-        start,
+        begun(board),
         &mut chunk,
         &mut hold,
         &mut colours,

@@ -1,4 +1,4 @@
-use mathlib.Core.Path.{refl, sym, _∙_}
+use mathlib.Core.Path.{refl, sym}
 use Rattle.answers.proofs.Adds.{says-refused}
 use Rattle.board.proofs.Steps.{says-text, says-page, refusal-number}
 use borrow.Author.Needs.{needs}
@@ -8,8 +8,9 @@ use Rattle.board.proofs.list.Tie as tie
 returns : tie.Need-returns
 returns c =
     λ queue map table.
-    let e = rw (c .before .answer .given .1) at (c .before .before .before .before .before .write-sheet .ensures) in
-    rw (sym e) (record { says = says-page _ _ _ _ _ _ e; leaves = refl })
+    let e = rw (c .before .before .answer .given .1) at (c .before .before .before .before .before .before
+    .write-sheet .ensures) in
+    rw (sym e) (record { says = says-page _ _ _ _ _ _ (c .empty .ensures) e; leaves = refl })
 
 returns-2 : tie.Need-returns-2
 returns-2 c =
@@ -27,6 +28,7 @@ list-spec =
     (tie.spec
     (λ c κs. search needs)
     (λ c. search needs)
+    (λ c κs. search needs)
     (λ c. search needs)
     (λ c. search needs)
     (λ c κs. search needs)

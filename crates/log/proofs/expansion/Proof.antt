@@ -1,4 +1,4 @@
-use mathlib.Core.Path.{sym, _∙_}
+use mathlib.Core.Path.{sym}
 use Rattle.log.proofs.Patterns.{expands-six, expands-eight, expands-not}
 use Rattle.log.proofs.expansion.Statement.{statement}
 use Rattle.log.proofs.expansion.Tie as tie

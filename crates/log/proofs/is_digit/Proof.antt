@@ -1,4 +1,4 @@
-use mathlib.Core.Path.{sym, _∙_}
+use mathlib.Core.Path.{sym}
 use Rattle.log.proofs.Patterns.{digit-below, digit-low, digit-between, digit-high}
 use Rattle.log.proofs.is_digit.Statement.{statement}
 use Rattle.log.proofs.is_digit.Tie as tie

@@ -1,4 +1,4 @@
-use mathlib.Core.Path.{sym, _∙_}
+use mathlib.Core.Path.{sym}
 use Rattle.log.proofs.Patterns.{shows-it, shows-not}
 use Rattle.log.proofs.pixel.Statement.{statement}
 use Rattle.log.proofs.pixel.Tie as tie

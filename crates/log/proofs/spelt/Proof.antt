@@ -1,5 +1,5 @@
 use Prim.Native.Nat.{_≤_, _<_, _+_, _*_, _-_, _^_}
-use mathlib.Core.Path.{_≡_, sym, _∙_}
+use mathlib.Core.Path.{_≡_, sym}
 use native.Mathlib.Omega.{arith}
 use Rattle.sheet.specs.Sheet.{number}
 use Rattle.log.proofs.Number.{number-none, number-more, digits-below, digits-fit}
