@@ -29,15 +29,16 @@ returns c =
     )
 
 same-length-8 : tie.Need-same-length-8
-same-length-8 c = c .before .before .before .hold .given
+same-length-8 c = c .before .before .before .before .hold .given
 
 returns-2 : tie.Need-returns-2
 returns-2 c =
-    let t = c .before .before .before .before .before .before .before .before .before .before .before .before
-    .before .before .args .text .now in
-    let kept = c .before .before .before .before .keep-all in (
+    let t = c .before .before .before .before .before .before .before .before
+     .before .before .before .before .before .before .before .args .text .now in
+    let kept = c .before .before .before .before .before .keep-all in (
       kept .ensures .1,
-      took-as (all-taken t _ (kept .ensures .0) _ _ (c .if1 .left) (kept .ensures .2 _)) (took-silent _ _ _ _ _),
+      took-as (all-taken t _ (kept .ensures .0) _ _ (c .before .if1 .left) (kept .ensures .2 _))
+          (took-silent _ _ _ _ _ (c .empty .ensures)),
     )
 
 pub take-spec : {M : Type 1} → statement M
@@ -55,5 +56,6 @@ take-spec =
     (λ c. search needs)
     (λ c. search needs)
     returns
+    (λ c κs. search needs)
     same-length-8
     returns-2)
