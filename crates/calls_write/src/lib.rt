@@ -1,7 +1,7 @@
 // A good sheet's calls, written into a lent buffer from what the reader kept of the sheet.
 //
-// Document 01, "The sheet and its calls", decides; the list is `callsOf` of calls' specs/Calls.antt. A call is two bytes,
-// select and byte; bytes past the list keep their values. Not modelled: as there.
+// Document 01, "The sheet and its calls", decides; the list is `callsOf` of calls' specs/Calls.antt. A call is two
+// bytes, select and byte; bytes past the list keep their values. Not modelled: as there.
 ghost use mathlib.Core.Path.{_≡_};
 ghost use mathlib.Core.Bool.{false};
 ghost use mathlib.Core.List.{[], _∷_, map};

@@ -12,7 +12,7 @@ use Rattle.hd153108_tick.specs.declared.ClockAnswer.{ClockAnswer}
 use Rattle.hd153108.specs.Hd153108.{Chip, chip, accessRefusals, write, read, reset, tickRefusals, tick, pixelRefusals}
 use Rattle.hd153108.specs.Hd153108.{pixelOr, pixel, pixelBytes, outcome, stateOutcome, clockOutcome}
 use Rattle.hd153108_pixel.specs.declared.Shown.{Shown}
-use Rattle.hd153108_pixel.specs.Picked.{shownOutcome}
+use Rattle.hd153108_pixel.specs.Outcome.{shownOutcome}
 use Rattle.claims.specs.Judged.{Judged}
 use Rattle.claims.specs.Determined.{Determined}
 use Rattle.claims.proofs.Judged.{judged}

@@ -1,7 +1,7 @@
 // The MS622424's blanking period and reset.
 //
-// Source document 004, "Write FIFO", and document 01, "Chip B", decide; ms622424's specs/Ms622424.antt says it (`blank`,
-// `reset`). Not modelled: what the output shows during a transfer.
+// Source document 004, "Write FIFO", and document 01, "Chip B", decide; ms622424's specs/Ms622424.antt says it
+// (`blank`, `reset`). Not modelled: what the output shows during a transfer.
 use ms622424::Answer;
 use ms622424::State;
 use ms622424_port::accepted;

@@ -1,6 +1,8 @@
-// The MS622424: what its calls share. The answers, the ranges that every call tries first, the step of a palette access.
+// The MS622424: what its calls share. The answers, the ranges that every call tries first, the step of a palette
+// access.
 //
-// Source document 004 and document 01, "Chip B", decide; ms622424's specs/Ms622424.antt says it. Not modelled: as there.
+// Source document 004 and document 01, "Chip B", decide; ms622424's specs/Ms622424.antt says it. Not modelled: as
+// there.
 pub mod range;
 
 use ms622424::Answer;

@@ -1,7 +1,8 @@
-// The MS622424's write queue: the transfers of waiting entries into the map, which blanking and a forced transfer make.
+// The MS622424's write queue: the transfers of waiting entries into the map, which blanking and a forced transfer
+// make.
 //
-// Source document 004, "Write FIFO", and document 01, "Chip B", decide; ms622424's specs/Ms622424.antt says it (`moves`).
-// Not modelled: what the output shows during a transfer.
+// Source document 004, "Write FIFO", and document 01, "Chip B", decide; ms622424's specs/Ms622424.antt says it
+// (`moves`). Not modelled: what the output shows during a transfer.
 use ms622424::State;
 ghost use mathlib.Core.Path.{_≡_};
 ghost use mathlib.Core.List.{_++_};

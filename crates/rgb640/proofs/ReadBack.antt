@@ -9,10 +9,10 @@ use Rattle.expand.specs.Expand.{ten}
 use Rattle.expand.proofs.Width.{ten-below, ten-top}
 use Rattle.rgb640.specs.declared.Colour.{Colour}
 use Rattle.rgb640.specs.declared.State.{State}
-use Rattle.rgb640.specs.Rgb640.{Chip, chip, colour, at, fetching, offset, entry, put, prepared, prefetched, moved}
-use Rattle.rgb640.specs.Rgb640.{indexLow, portOf, paletteWrite, paletteRead, component, served, written, dataWritten}
-use Rattle.rgb640.specs.Rgb640.{taken, paletteWritten, dataRead, Call, writes, reads, called, replies}
-use Rattle.rgb640.specs.Rgb640.{pointing, storing, recalling}
+use Rattle.rgb640.specs.Rgb640.{Chip, chip, colour, at, fetching, offset, entry, put, prepared}
+use Rattle.rgb640.specs.Rgb640.{prefetched, moved, indexLow, portOf, paletteWrite, paletteRead, component}
+use Rattle.rgb640.specs.Rgb640.{served, written, dataWritten, taken, paletteWritten, dataRead, Call}
+use Rattle.rgb640.specs.Rgb640.{writes, reads, called, replies, pointing, storing, recalling}
 use Rattle.rgb640.proofs.Index.{space-write, space-read, fetches-nothing}
 use Rattle.rgb640.proofs.Access.{write-index, write-data, read-data}
 use Rattle.rgb640.proofs.Entry.{entry-put}

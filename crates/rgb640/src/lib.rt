@@ -1,12 +1,12 @@
-// Chip C, the palette port of the RGB640: ports 4, 5 and 6 over a lent table of 1,024 colours of ten bits. Its types, its
-// definitions and their laws.
+// Chip C, the palette port of the RGB640: ports 4, 5 and 6 over a lent table of 1,024 colours of ten bits. Its types,
+// its definitions and their laws.
 //
 // Source document 001, sections 9.1, 9.3, 9.4.1 and 10.15 with Tables 23 to 26, 29 and 30, and document 01, "Chip C",
-// decide; specs/Rgb640.antt says it. The calls are in rgb640_write and rgb640_read (read, reset), and what both use is in
-// rgb640_port. The laws: what is written reads back (proofs/ReadBack.antt), a good chip stays good (Good), what a write of
-// each port does (Effects), what the calls keep (Keeps), what follows a third access (After). Not modelled: ports 0 to 3
-// and 7, the window tables, cursor, YUV and the sequences of four and six transfers, the other registers, analogue
-// output, clocks and bus timing.
+// decide; specs/Rgb640.antt says it. The calls are in rgb640_write and rgb640_read (read, reset), and what both use
+// is in rgb640_port. The laws: what is written reads back (proofs/ReadBack.antt), a good chip stays good (Good), what
+// a write of each port does (Effects), what the calls keep (Keeps), what follows a third access (After). Not
+// modelled: ports 0 to 3 and 7, the window tables, cursor, YUV and the sequences of four and six transfers, the other
+// registers, analogue output, clocks and bus timing.
 
 // A colour of ten bits a component.
 #[repr(C)]

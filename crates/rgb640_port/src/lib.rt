@@ -1,5 +1,5 @@
-// Chip C, the palette port of the RGB640: what a write and a read share. The answers, the ranges that both try first, the
-// fetch and the step after a third access.
+// Chip C, the palette port of the RGB640: what a write and a read share. The answers, the ranges that both try first,
+// the fetch and the step after a third access.
 //
 // Source document 001, sections 9.4.1 and 10.15, and document 01, "Chip C", decide; the rules are in rgb640's
 // specs/Rgb640.antt. Not modelled: as there.

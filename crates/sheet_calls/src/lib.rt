@@ -1,7 +1,7 @@
 // The step from a sheet to its call list: from any text into any buffer, and the same for C.
 //
-// Document 01, "The sheet and its calls", decides; the step is `sheetToCalls` of calls' specs/Calls.antt. The caller owns
-// the buffer; bytes past the list keep their values, and a refusal writes none. Not modelled: as there.
+// Document 01, "The sheet and its calls", decides; the step is `sheetToCalls` of calls' specs/Calls.antt. The caller
+// owns the buffer; bytes past the list keep their values, and a refusal writes none. Not modelled: as there.
 ghost use mathlib.Core.Path.{_≡_};
 ghost use Rattle.sheet.specs.Sheet.{outcome, heard, telling};
 ghost use Rattle.calls.specs.Calls.{sheetToCalls};

@@ -1,5 +1,5 @@
 use native.Mathlib.Omega.{arith}
-use Rattle.hd153108_pixel.proofs.Rule.{part-as, inside-as, three}
+use Rattle.hd153108_shown.proofs.Rule.{part-as, inside-as, three}
 use borrow.Author.Needs.{needs}
 use Rattle.hd153108_pixel.proofs.pixel.Statement.{statement}
 use Rattle.hd153108_pixel.proofs.pixel.Tie as tie

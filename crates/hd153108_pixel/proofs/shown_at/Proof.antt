@@ -1,6 +1,6 @@
 use mathlib.Core.Path.{ap}
 use Rattle.vocabulary.specs.Outcome.{accepting}
-use Rattle.hd153108_pixel.proofs.Rule.{bytes-at}
+use Rattle.hd153108_shown.proofs.Rule.{bytes-at}
 use borrow.Author.Needs.{needs}
 use Rattle.hd153108_pixel.proofs.shown_at.Statement.{statement}
 use Rattle.hd153108_pixel.proofs.shown_at.Tie as tie

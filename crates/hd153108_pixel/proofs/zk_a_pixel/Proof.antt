@@ -1,6 +1,6 @@
 use mathlib.Core.Path.{_∙_}
 use mathlib.Core.List.{[], _∷_}
-use Rattle.hd153108_pixel.proofs.Rule.{means-as, inside-as}
+use Rattle.hd153108_shown.proofs.Rule.{means-as, inside-as}
 use borrow.Author.Needs.{needs}
 use Rattle.hd153108_pixel.proofs.zk_a_pixel.Statement.{statement}
 use Rattle.hd153108_pixel.proofs.zk_a_pixel.Tie as tie

@@ -1,4 +1,4 @@
-use Rattle.hd153108_pixel.proofs.Rule.{refusal-as}
+use Rattle.hd153108_shown.proofs.Rule.{refusal-as}
 use borrow.Author.Needs.{needs}
 use Rattle.hd153108_pixel.proofs.zk_a_pixel_refusal.Statement.{statement}
 use Rattle.hd153108_pixel.proofs.zk_a_pixel_refusal.Tie as tie

@@ -6,7 +6,8 @@ use Rattle.hd153108_vectors.proofs.run.Statement.{statement}
 use Rattle.hd153108_vectors.proofs.run.Tie as tie
 
 abbrev Inv-loop : tie.InvT-loop
-Inv-loop text colours₀ overlays₀ s₀ at₀ colours overlays s at = (length colours ≡ length colours₀) × (length overlays ≡ length overlays₀)
+Inv-loop text colours₀ overlays₀ s₀ at₀ colours overlays s at =
+    (length colours ≡ length colours₀) × (length overlays ≡ length overlays₀)
 
 abbrev μ-loop : tie.MeasureT-loop
 μ-loop text colours₀ overlays₀ s₀ at₀ colours overlays s at = length text - at

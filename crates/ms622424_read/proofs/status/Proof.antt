@@ -29,11 +29,12 @@ unfolding statusByte mark
 returns c =
     let filled = c .before .before .before in
     let empty = filled .before .before in
-    let e1 = empty .before .before .choose .ensures .0 in
-    let e2 = empty .choose2 .ensures .0 in
-    let e3 = filled .choose3 .ensures .0 in
-    let e4 = c .before .choose4 .ensures .0 in
-    cc
+    rw (
+      c .before .choose4 .ensures .0,
+      filled .choose3 .ensures .0,
+      empty .choose2 .ensures .0,
+      empty .before .before .choose .ensures .0,
+    )
 
 pub status-spec : {M : Type 1} → statement M
 status-spec =

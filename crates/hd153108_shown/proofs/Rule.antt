@@ -18,9 +18,9 @@ use Rattle.vocabulary.proofs.Outcome.{refused-as, accepted-does}
 use Rattle.hd153108.specs.Hd153108.{Chip, Table, colour, overlay, tableOf, isOff, selected, shownTable}
 use Rattle.hd153108.specs.Hd153108.{shownEntry, colourAt, shown, ranges, pixelRanges, short, pixelRefusals, pixelOr}
 use Rattle.hd153108.proofs.Access.{tried, known, stops}
-use Rattle.hd153108_pixel.specs.declared.Pick.{Pick}
-use Rattle.hd153108_pixel.specs.declared.Pick.the-variants.{Colour, Overlay, Refused}
-use Rattle.hd153108_pixel.specs.Picked.{isColour, meaning, Inside, Picked}
+use Rattle.hd153108_shown.specs.declared.Pick.{Pick}
+use Rattle.hd153108_shown.specs.declared.Pick.the-variants.{Colour, Overlay, Refused}
+use Rattle.hd153108_shown.specs.Picked.{isColour, meaning, Inside, Picked}
 use Rattle.hd153108.proofs.Masks.{masked-fits}
 
 is-colour : (t : Table) → isColour t ≡ true → t ≡ colour

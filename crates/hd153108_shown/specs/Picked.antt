@@ -1,4 +1,4 @@
--- What the pixel code's answers mean, in the words of hd153108's specs/Hd153108.antt.
+-- What the decision means, in the words of hd153108's specs/Hd153108.antt.
 use Prim.Native.Nat.{ℕ, _+_, _*_, _≤_}
 use mathlib.Core.Path.{_≡_}
 use mathlib.Core.Bool.{Bool, true, false}
@@ -6,9 +6,8 @@ use mathlib.Core.List.{List, [], _∷_}
 use lib.ListN.{length}
 use Rattle.vocabulary.specs.Outcome.{Outcome, accepting, refusing}
 use Rattle.hd153108.specs.Hd153108.{Chip, Table, colour, overlay, colourAt, pixelOr}
-use Rattle.hd153108_pixel.specs.declared.Pick.{Pick}
-use Rattle.hd153108_pixel.specs.declared.Pick.the-variants.{Colour, Overlay, Refused}
-use Rattle.hd153108_pixel.specs.declared.Shown.{Shown}
+use Rattle.hd153108_shown.specs.declared.Pick.{Pick}
+use Rattle.hd153108_shown.specs.declared.Pick.the-variants.{Colour, Overlay, Refused}
 
 abbrev pub isColour : Table → Bool
 isColour colour = true
@@ -29,12 +28,3 @@ Inside c (Refused n) = Unit
 pub record Picked (enable number byte : ℕ) (c : Chip) (p : Pick) : Type 0 where
   pub means : (none : List ℕ) → meaning none c p ≡ pixelOr none enable number byte c
   pub inside : Inside c p
-
-abbrev pub shownOutcome : Shown → Outcome (List ℕ)
-shownOutcome r = record {
-  refusal = r .refusal;
-  value = 0;
-  count = 0;
-  line = 0;
-  left = r .red ∷ r .green ∷ r .blue ∷ [];
-}

@@ -2,10 +2,10 @@ use mathlib.Core.Path.{_≡_, sym, _∙_}
 use native.Mathlib.Omega.{arith}
 use Rattle.hd153108.specs.Hd153108.{Chip, chip, shownEntry}
 use Rattle.hd153108.proofs.Access.{tried}
-use Rattle.hd153108_pixel.proofs.Rule.{picked-first, picked-outside, picked-colour, picked-overlay}
+use Rattle.hd153108_shown.proofs.Rule.{picked-first, picked-outside, picked-colour, picked-overlay}
 use borrow.Author.Needs.{needs}
-use Rattle.hd153108_pixel.proofs.picked.Statement.{statement}
-use Rattle.hd153108_pixel.proofs.picked.Tie as tie
+use Rattle.hd153108_shown.proofs.picked.Statement.{statement}
+use Rattle.hd153108_shown.proofs.picked.Tie as tie
 
 -- past what every call tries first
 abbrev at : tie.Else1 → Chip

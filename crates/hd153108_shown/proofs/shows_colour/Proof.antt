@@ -1,8 +1,8 @@
 use mathlib.Core.Path.{refl}
 use Rattle.hd153108.specs.Hd153108.{selected}
-use Rattle.hd153108_pixel.proofs.Rule.{never-on, none-on}
-use Rattle.hd153108_pixel.proofs.shows_colour.Statement.{statement}
-use Rattle.hd153108_pixel.proofs.shows_colour.Tie as tie
+use Rattle.hd153108_shown.proofs.Rule.{never-on, none-on}
+use Rattle.hd153108_shown.proofs.shows_colour.Statement.{statement}
+use Rattle.hd153108_shown.proofs.shows_colour.Tie as tie
 
 returns : tie.Need-returns
 unfolding selected

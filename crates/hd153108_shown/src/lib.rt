@@ -1,0 +1,79 @@
+// The HD153108's pixel selection (chip A): masks, blink, and which entry of which table shows.
+//
+// Source document 003, Table 4 and Internal Registers, with document 01's rulings, decides; the rule is `pixelOr` of
+// hd153108's specs/Hd153108.antt, and what a decision means is specs/Picked.antt. Not modelled: analogue output,
+// blanking, pipeline delay.
+use hd153108::State;
+ghost use mathlib.Core.Path.{_≡_};
+ghost use Prim.Native.Nat.{_/_, _<_};
+ghost use Rattle.hd153108.specs.Hd153108.{chip, masked, selected};
+ghost use Rattle.hd153108_shown.specs.Picked.{isColour, Picked};
+
+// What a pixel shows: an entry of one of the tables; or its refusal.
+pub enum Pick {
+    Colour(usize),
+    Overlay(usize),
+    Refused(u8),
+}
+
+fn wide(x: u8) -> usize
+    ensures { λ r. ⌜ r ≡ x ⌝ }
+{
+    x as usize
+}
+
+// The eight lines of a pixel's byte.
+fn masked_byte(off: bool, read: u8, blink: u8, byte: u8) -> u8
+    ensures { λ r. ⌜ r ≡ masked 8 off read blink byte ⌝ }
+{
+    if off {
+        return byte & (255 - read) & blink;
+    }
+    byte & (255 - read)
+}
+
+// The two lines of an overlay number: bits 0, 1 of the overlay control mask them, and bits 2, 3 blink mask them.
+fn masked_number(off: bool, control: u8, number: u8) -> u8
+    requires { ⌜ number < 4 ⌝ }
+    ensures { λ r. ⌜ r ≡ masked 2 off control (control / 4) number ⌝ }
+{
+    if off {
+        return number & (255 - control) & (control / 4);
+    }
+    number & (255 - control)
+}
+
+// Whether the colour table shows.
+fn shows_colour(enable: u8, b6: u8, number: u8) -> bool
+    ensures { λ r. ⌜ r ≡ isColour (selected enable b6 number) ⌝ }
+{
+    if enable == 0 {
+        return true;
+    }
+    if b6 == 0 {
+        return false;
+    }
+    number == 0
+}
+
+// The one decision: refusals 1 and 9, then the table and its entry.
+pub fn picked(s: State, colours: &[u8], overlays: &[u8], enable: u8, number: u8, byte: u8) -> Pick
+    ensures { λ r. ⌜ Picked enable number byte (chip s (now (colours .entry)) (now (overlays .entry))) r ⌝ }
+{
+    let refusal = hd153108_port::standing(s, colours.len(), overlays.len());
+    if refusal != 0 {
+        return Pick::Refused(refusal);
+    }
+    if 2 <= enable {
+        return Pick::Refused(9);
+    }
+    if 4 <= number {
+        return Pick::Refused(9);
+    }
+    let control = s.control;
+    let off = hd153108_port::blink_off(s.clock);
+    if shows_colour(enable, control / 64 % 2, number) {
+        return Pick::Colour(wide(masked_byte(off, s.readmask, s.blinkmask, byte)));
+    }
+    Pick::Overlay(wide(masked_number(off, control, number)))
+}
