@@ -1,11 +1,11 @@
 /* bench check | times | counts | log LINES | program COMMAND..: the measuring program of host/bench.
  *
- * check: every work once for the library, plain C and plain C that tests nothing; all bytes of all answers and tables are
- *   compared by a checksum. Exits 1 where one differs.
+ * check: every work once for the library, plain C and plain C that tests nothing, and calls on any input for the first
+ *   two; all bytes of all answers and tables are compared by a checksum. Exits 1 where one differs.
  * times: a line 'time TAB work TAB who TAB ns a call' each, the best of several runs.
  * counts: every work once, a line 'calls TAB work TAB who TAB number' each, then mark(); callgrind dumps there.
- * log LINES: a port log of mixed lines. program COMMAND..: the best time of several runs of it, standard input given anew
- *   each time, a line 'ns N'. */
+ * log LINES: a port log of mixed lines. program COMMAND..: the best time of several runs of it, standard input given
+ *   anew each time, a line 'ns TAB N'. */
 #include "works.h"
 
 #include <fcntl.h>
@@ -44,11 +44,11 @@ static void fill(void) {
     fill_sheets();
 }
 
-static uint64_t checksum(const struct work *work) {
+static uint64_t checksum(void (*run)(struct lent *, struct seen *)) {
     struct seen seen = {0, 0, 1};
     const uint8_t *bytes = (const uint8_t *)&lent;
     fill();
-    work->run(&lent, &seen);
+    run(&lent, &seen);
     for (size_t i = 0; i < sizeof lent; i++) seen.number = (seen.number ^ bytes[i]) * 0x100000001b3u;
     return seen.number;
 }
@@ -58,10 +58,14 @@ static int check(void) {
     for (unsigned w = 0; w < WORKS; w++)
         for (unsigned k = 1; k < 3; k++) {
             if (k == 2 && !bare_works[w].bare) continue;
-            if (checksum(&zk_works[w]) == checksum(&sides[k].works[w])) continue;
+            if (checksum(zk_works[w].run) == checksum(sides[k].works[w].run)) continue;
             fprintf(stderr, "bench: %s: the library and %s answer differently\n", zk_works[w].name, sides[k].who);
             differs = 1;
         }
+    if (checksum(zk_any) != checksum(plain_any)) {
+        fprintf(stderr, "bench: on any input the library and plain answer differently\n");
+        differs = 1;
+    }
     return differs;
 }
 

@@ -56,7 +56,7 @@ static void say_decimal(const char *word, size_t length, unsigned v) {
 static void refused(unsigned n) { say_decimal("refused=", 8, n); }
 static void moved(unsigned n) { say_decimal("moved=", 6, n); }
 static void value(unsigned v) { SAY_HEX("value=", v, 2); }
-static void colour(unsigned red, unsigned green, unsigned blue) { SAY_HEX("colour=", red << 16 | green << 8 | blue, 6); }
+static void colour(unsigned r, unsigned g, unsigned b) { SAY_HEX("colour=", r << 16 | g << 8 | b, 6); }
 static void ok(void) { SAY("ok\n"); }
 static void bad(void) { SAY("bad\n"); }
 

@@ -55,7 +55,8 @@ static unsigned read_sheet(const uint8_t *t, size_t length, struct sheet *sheet)
     while (t < end) {
         int digits = *t == 'o' ? 1 : 2, entry, v;
         line++;
-        if ((*t != 'o' && *t != 'c') || end - t < digits + 6 || t[digits + 1] != '=' || t[digits + 5] != '\n') return line;
+        if ((*t != 'o' && *t != 'c') || end - t < digits + 6) return line;
+        if (t[digits + 1] != '=' || t[digits + 5] != '\n') return line;
         entry = number(t + 1, digits);
         v = number(t + digits + 2, 3);
         if (entry < 0 || v < 0) return line;

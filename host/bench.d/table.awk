@@ -1,9 +1,11 @@
 # The lines of measure to a table of ratios, and to a list of what each call tests.
-BEGIN { FS = "\t" }
+BEGIN {
+    FS = "\t"
+    shape = "| %-32s | %9s | %9s | %5s | %9s | %9s | %5s | %9s |\n"
+}
 function ratio(a, b) { return b > 0 ? sprintf("%.2f", a / b) : "" }
-function row(work, ours, plain, bare, iours, iplain, ibare) {
-    printf "| %-32s | %9s | %9s | %5s | %9s | %9s | %5s | %9s |\n", work, ours, plain, ratio(ours, plain), iours, iplain,
-        ratio(iours, iplain), ibare
+function row(work, ours, plain, iours, iplain, ibare) {
+    printf shape, work, ours, plain, ratio(ours, plain), iours, iplain, ratio(iours, iplain), ibare
 }
 $1 == "time" { ns[$2, $3] = $4 }
 $1 == "count" {
@@ -16,14 +18,12 @@ $1 == "replay" {
     instructions["replay, a line", $2] = sprintf("%.1f", $5 / $6)
 }
 END {
-    printf "| %-32s | %9s | %9s | %5s | %9s | %9s | %5s | %9s |\n", "work", "ns ours", "ns C", "ratio", "in. ours", "in. C",
-        "ratio", "in. bare"
+    printf shape, "work", "ns ours", "ns C", "ratio", "in. ours", "in. C", "ratio", "in. bare"
     print "|---|---|---|---|---|---|---|---|"
     works[++n] = "replay, a line"
     for (i = 1; i <= n; i++) {
         w = works[i]
-        row(w, ns[w, "zk"], ns[w, "plain"], ns[w, "bare"], instructions[w, "zk"], instructions[w, "plain"],
-            instructions[w, "bare"])
+        row(w, ns[w, "zk"], ns[w, "plain"], instructions[w, "zk"], instructions[w, "plain"], instructions[w, "bare"])
     }
     print "\nWhat each call tests, ours and plain C alike, before it does anything:\n"
     for (i = 1; i < n; i++)

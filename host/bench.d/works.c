@@ -198,8 +198,8 @@ static void to_calls(struct lent *lent, struct seen *seen, const uint8_t *text, 
 static void sheet_whole(struct lent *lent, struct seen *seen) { to_calls(lent, seen, lent->whole, ZK_SHEET_BYTES); }
 static void sheet_damaged(struct lent *lent, struct seen *seen) { to_calls(lent, seen, lent->damaged, ZK_SHEET_BYTES); }
 static void sheet_short(struct lent *lent, struct seen *seen) {
-    static const char nine[] = "chip=153108\nreadmask=00\nblinkmask=ff\noverlay=40\ntiming=31\no1=f00\nc10=0a5\nc11=fff\n"
-                               "c20=123\n";
+    static const char nine[] = "chip=153108\nreadmask=00\nblinkmask=ff\noverlay=40\ntiming=31\n"
+                               "o1=f00\nc10=0a5\nc11=fff\nc20=123\n";
     to_calls(lent, seen, (const uint8_t *)nine, sizeof nine - 1);
 }
 

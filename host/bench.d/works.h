@@ -32,4 +32,8 @@ struct work {
 enum { WORKS = 28 };
 extern const struct work zk_works[WORKS], plain_works[WORKS], bare_works[WORKS];
 
+/* calls on any input, good and bad: compared, not measured */
+void zk_any(struct lent *, struct seen *);
+void plain_any(struct lent *, struct seen *);
+
 #endif

@@ -1,0 +1,159 @@
+/* Calls of one prefix on any input: random states, tables, lengths and sheets, good and bad, so that the library and
+ * plain C are seen to refuse alike. Compiled with PREFIX zk and plain. */
+#include "works.h"
+
+#include <string.h>
+
+#define JOIN_(a, b) a##_##b
+#define JOIN(a, b) JOIN_(a, b)
+#define CALL(name) JOIN(PREFIX, name)
+
+static uint64_t seed;
+static uint32_t below(uint32_t n) {
+    uint64_t z = (seed += 0x9e3779b97f4a7c15u);
+    z = (z ^ (z >> 30)) * 0xbf58476d1ce4e5b9u;
+    z = (z ^ (z >> 27)) * 0x94d049bb133111ebu;
+    return (uint32_t)((z ^ (z >> 31)) % n);
+}
+/* mostly below n, now and then n, or any number of so many bits */
+static uint32_t near(uint32_t n, unsigned bits) {
+    if (below(40) != 0) return below(n);
+    return below(2) ? n : below((uint32_t)1 << bits);
+}
+static size_t length(size_t n) { return below(40) ? n : below((uint32_t)n); }
+
+static void see(struct seen *seen, const void *answer, size_t n) {
+    const uint8_t *bytes = answer;
+    seen->calls++;
+    for (size_t i = 0; i < n; i++) seen->number = (seen->number ^ bytes[i]) * 0x100000001b3u;
+}
+#define SEE(call, type)          \
+    do {                         \
+        type a = call;           \
+        see(seen, &a, sizeof a); \
+    } while (0)
+
+static zk_a_state state_a(void) {
+    zk_a_state s = {0};
+    s.address = below(256);
+    s.pointer = near(3, 8);
+    s.red = near(16, 8);
+    s.green = near(16, 8);
+    s.readmask = below(256);
+    s.blinkmask = below(256);
+    s.control = below(256) & (below(20) ? 0x4f : 0xff);
+    s.clock.timing = below(256);
+    s.clock.position = near(8, 8);
+    return s;
+}
+
+static void any_a(struct lent *l, struct seen *seen) {
+    zk_a_state s = state_a();
+    uint8_t select = near(8, 8), byte = below(256), enable = near(2, 8), number = near(4, 8);
+    uint8_t *c = l->colours, *o = l->overlays;
+    size_t m = length(sizeof l->colours), n = length(sizeof l->overlays), size = length(sizeof l->sheet);
+    c[below(768)] = below(100) ? 3 : 16;
+    switch (below(6)) {
+    case 0: SEE(CALL(a_write)(s, select, byte, c, m, o, n), zk_a_answer); break;
+    case 1: SEE(CALL(a_read)(s, select, c, m, o, n), zk_a_answer); break;
+    case 2: SEE(CALL(a_pixel)(s, c, m, o, n, enable, number, byte), zk_a_shown); break;
+    case 3: SEE(CALL(a_step)(s.clock), zk_a_clock_answer); break;
+    case 4: SEE(CALL(a_reset)(s), zk_a_answer); break;
+    default: SEE(CALL(sheet_write)(s, c, m, o, n, l->sheet, size), uint64_t);
+    }
+    for (unsigned i = 0; i < 768; i++) c[i] &= 15;
+}
+
+static zk_b_state state_b(void) {
+    zk_b_state s = {0};
+    s.address = near(8192, 16);
+    s.counter = near(3, 8);
+    s.red = below(256);
+    s.green = below(256);
+    s.command = near(32, 8);
+    s.readmode = near(2, 8);
+    s.revision = near(8, 8);
+    s.board = near(16, 8);
+    s.waiting = below(3) ? near(65, 8) : 64 * below(2);
+    return s;
+}
+
+static void any_b(struct lent *l, struct seen *seen) {
+    zk_b_state s = state_b();
+    uint8_t select = near(8, 8), byte = below(256), mode = near(4, 8), signals = near(16, 8), *m = l->map;
+    uint32_t slots = below(2) ? below(70) : near(65536, 17), word = near(1 << 24, 30);
+    size_t places = length(ZK_B_PLACES), bytes = length(sizeof l->map);
+    for (unsigned i = 0; i < ZK_B_PLACES; i++) {
+        l->queue[i] = i < s.waiting ? (uint64_t)below(8192) << 24 : 0;
+        l->queue[i] |= i < s.waiting ? below(1 << 24) : 0;
+    }
+    if (below(20) == 0) l->queue[below(ZK_B_PLACES)] = (uint64_t)1 << below(64);
+    switch (below(6)) {
+    case 0: SEE(CALL(b_write)(s, select, byte, l->queue, places, m, bytes), zk_b_answer); break;
+    case 1: SEE(CALL(b_read)(s, select, l->queue, places, m, bytes), zk_b_answer); break;
+    case 2: SEE(CALL(b_blank)(s, slots, l->queue, places, m, bytes), zk_b_answer); break;
+    case 3: SEE(CALL(b_pixel)(s, mode, word, l->queue, places, m, bytes), zk_b_shown); break;
+    case 4: SEE(CALL(b_sync)(s, signals, l->queue, places), zk_b_answer); break;
+    default: SEE(CALL(b_reset)(s, l->queue, places), zk_b_answer);
+    }
+    see(seen, l->queue, sizeof l->queue);
+}
+
+static zk_c_state state_c(void) {
+    static const uint16_t starts[4] = {0x000e, 0x4000, 0x8000, 0};
+    zk_c_state s = {0};
+    s.index = starts[below(4)];
+    s.index = (uint16_t)(s.index + (below(4) ? below(1030) : 0));
+    s.red = near(1024, 16);
+    s.green = near(1024, 16);
+    s.fetched.red = near(1024, 16);
+    s.fetched.green = near(1024, 16);
+    s.fetched.blue = near(1024, 16);
+    s.place = near(3, 8);
+    s.update = below(256);
+    return s;
+}
+
+static void any_c(struct lent *l, struct seen *seen) {
+    zk_c_state s = state_c();
+    uint8_t port = (uint8_t)(4 + near(3, 8)), byte = below(256);
+    uint32_t component = near(256, 30);
+    size_t n = length(3072);
+    switch (below(5)) {
+    case 0: SEE(CALL(c_write)(s, port, byte, l->table, n), zk_c_answer); break;
+    case 1: SEE(CALL(c_read)(s, port, l->table, n), zk_c_answer); break;
+    case 2: SEE(CALL(c_reset)(s), zk_c_answer); break;
+    case 3: SEE(CALL(expand8)(component), uint64_t); break;
+    default: SEE(CALL(expand6)(component), uint64_t);
+    }
+}
+
+/* the whole sheet with lines left out, a byte changed, or its end cut */
+static void any_sheet(struct lent *l, struct seen *seen) {
+    static const char bytes[] = "\n=0fgFoc \r";
+    uint8_t text[ZK_SHEET_BYTES];
+    size_t n = 0;
+    uint32_t keep = 1 + below(8);
+    for (const uint8_t *line = l->whole, *end = line + ZK_SHEET_BYTES; line < end;) {
+        size_t size = (size_t)((const uint8_t *)memchr(line, '\n', (size_t)(end - line)) + 1 - line);
+        if (line < l->whole + 58 ? below(60) != 0 : below(8) < keep) memcpy(text + n, line, size), n += size;
+        line += size;
+    }
+    if (n > 0 && below(3) == 0) {
+        uint32_t at = below(n > 58 && below(2) ? 58 : (uint32_t)n);
+        text[at] = (uint8_t)bytes[below(sizeof bytes - 1)];
+    }
+    if (n > 0 && below(8) == 0) n = below((uint32_t)n);
+    uint64_t answer = CALL(sheet_to_calls)(text, n, l->calls, sizeof l->calls);
+    see(seen, &answer, sizeof answer);
+    /* and with a buffer that just holds the list, or is short by one */
+    size_t room = 2 * zk_count(answer);
+    SEE(CALL(sheet_to_calls)(text, n, l->calls, room - (room > 0 && below(2))), uint64_t);
+    see(seen, l->calls, sizeof l->calls);
+}
+
+void CALL(any)(struct lent *lent, struct seen *seen) {
+    seed = 622424;
+    for (unsigned i = 0; i < 20000; i++) any_a(lent, seen), any_b(lent, seen), any_c(lent, seen);
+    for (unsigned i = 0; i < 4000; i++) any_sheet(lent, seen);
+}
