@@ -26,22 +26,30 @@ fn gathered(queue: &[u64], from: usize, to: usize) -> u64
     bits
 }
 
-// Every waiting entry has an address of the map, and every unused place is zero. All places are gathered first, a fixed
-// number that the compiler unrolls, and the unused ones again only where a place is not zero.
+// Every waiting entry has an address of the map, and every unused place is zero. All places are gathered first, by two
+// fixed loops that the compiler unrolls; where one is not zero, the unused ones up to the end of their half again.
 fn queue_in_range(queue: &[u64], waiting: u8) -> bool
     requires { ⌜ (length (now queue) ≡ 64) × (waiting ≤ 64) ⌝ }
     ensures { λ r. ⌜ r ≡ (every inMap (held (take waiting (now (queue .entry))))
         && every isZero (drop waiting (now (queue .entry)))) ⌝ }
 {
     let n = waiting as usize;
-    let all = gathered(queue, 0, 64);
+    let front = gathered(queue, 0, 32);
+    let back = gathered(queue, 32, 64);
+    let all = front | back;
     if all == 0 {
         return true;
     }
     if 137438953472 <= all {
         return false;
     }
-    gathered(queue, n, 64) == 0
+    if 32 < n {
+        return gathered(queue, n, 64) == 0;
+    }
+    if back != 0 {
+        return false;
+    }
+    gathered(queue, n, 32) == 0
 }
 
 // The state's numbers and the queue's places lie in their ranges.
