@@ -10,8 +10,7 @@ use borrow.Author.Tests.{lt-ltb, le-ltb, ltb-true, ltb-false}
 use Rattle.vocabulary.specs.Refusal.{Refusal, lentLength, outOfRange, noAccess, noIndex, readMode, stillWaiting}
 use Rattle.vocabulary.specs.Refusal.{overFifteen, malformed, shortBuffer}
 use Rattle.vocabulary.proofs.Choice.{cases}
-use Rattle.vocabulary.proofs.Refusal.{refusal-is, refusal-none}
-use Rattle.vocabulary.proofs.Outcome.{refused-as, accepted-does}
+use Rattle.vocabulary.proofs.Call.{stops, goes-on}
 use Rattle.vocabulary.proofs.Range.{clash}
 use Rattle.sheet.specs.declared.Answer.the-variants.{Done, Refused}
 use Rattle.sheet.specs.declared.Line.{Line}
@@ -33,10 +32,8 @@ pub malformed-eight : (t out : List ℕ) (n : ℕ) → bad (suc n) ≡ sheetOf t
 unfolding sheetToCalls
 malformed-eight t out n e =
     rw (sym e)
-    (sym (refused-as 7 (suc n) out _
-    (refusal-is (callRefusals (bad (suc n)) out) before malformed _ refl
-    (refl, (refl, (refl, (refl, (refl, (refl, (refl, tt)))))))
-    refl)))
+    (stops (callRefusals (bad (suc n)) out) (suc n) out _ before malformed 7 _ refl refl
+    (refl, (refl, (refl, (refl, (refl, (refl, (refl, tt))))))) refl)
 
 pub refused-bad : (t out : List ℕ) (n : ℕ) (kept : List ℕ) → readingOf n kept ≡ sheetOf t → (n ≡ 0 → ⊥)
     → outcome (Refused 8 n) out ≡ sheetToCalls t out
@@ -61,10 +58,8 @@ module _ (t out kept : List ℕ) (is : good (map lineFor kept) ≡ sheetOf t) wh
   refused-short {n} e h =
       let short : length out < bytes = omega (arith, length-bytes (callsOf (map lineFor kept))) in
       rw (sym is)
-      (sym (refused-as 6 0 out _
-      (refusal-is (callRefusals (good (map lineFor kept)) out) (before ++ (malformed ∷ [])) shortBuffer _ refl
-      (refl, (refl, (refl, (refl, (refl, (refl, (refl, (refl, tt))))))))
-      (lt-ltb (length out) bytes short))))
+      (stops (callRefusals (good (map lineFor kept)) out) 0 out _ (before ++ (malformed ∷ [])) shortBuffer 6 _ refl refl
+      (refl, (refl, (refl, (refl, (refl, (refl, (refl, (refl, tt)))))))) (lt-ltb (length out) bytes short))
 
   pub done : {n : ℕ} {left : List ℕ} → n ≡ length (callsOf (map lineFor kept)) → 2 * n ≤ length out
       → left ≡ pasted out 0 (callBytes (callsOf (map lineFor kept)))
@@ -73,8 +68,7 @@ module _ (t out kept : List ℕ) (is : good (map lineFor kept) ≡ sheetOf t) wh
   done {n} e h f =
       let room = calls-fit e h in
       rw (sym is, e, f)
-      (sym (accepted-does 0 out _
-      (refusal-none (callRefusals (good (map lineFor kept)) out) (refl, (le-ltb (length out) bytes room, tt)))))
+      (goes-on (callRefusals (good (map lineFor kept)) out) 0 out _ (refl, (le-ltb (length out) bytes room, tt)))
 
 -- a required line that is kept is there
 required-kept : (k x : ℕ) (l : List Line) → required (keyAt k) ≡ true → Lawful k (lineFor x ∷ l)

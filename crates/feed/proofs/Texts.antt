@@ -9,7 +9,7 @@ use lib.ListN.{length, getD, take, drop, drop-of-length-le}
 use lib.Seq.{drop-cons, take-suc}
 use borrow.Author.Tests.{eqb-true, eq-eqb, ne-eqb, ltb-true, lt-ltb, le-ltb}
 use Rattle.vocabulary.proofs.Choice.{picks-first, picks-second, cases}
-use Rattle.turns.specs.Turns.{Turn, turn}
+use Rattle.turns.specs.Turns.{turn}
 use Rattle.feed.specs.Feed.{Desk, ended, kept, byteTurn, before, upTo, fed}
 use Rattle.feed.proofs.Bytes.{byte-ends, byte-holds}
 

@@ -1,7 +1,7 @@
 -- Laws of an access: which refusal, and what follows where there is none. Assumes nothing.
-use Prim.Native.Nat.{ℕ, zero, suc, _+_, _-_, _*_, _/_, _%_, _<_, _≤_}
+use Prim.Native.Nat.{ℕ, zero, suc, _-_}
 use native.Mathlib.Omega.{arith}
-use mathlib.Core.Path.{_≡_, refl, sym, ap, _∙_}
+use mathlib.Core.Path.{_≡_, refl, ap, _∙_}
 use mathlib.Core.List.{List, [], _∷_}
 use mathlib.Core.Bool.{Bool, true, false}
 use borrow.Author.Tests.{lt-ltb}
@@ -10,12 +10,13 @@ use Rattle.vocabulary.specs.Range.{Holds}
 use Rattle.vocabulary.specs.Refusal.{Row, lentLength, outOfRange, noAccess, due, refusalOf, standing}
 use Rattle.vocabulary.specs.Outcome.{Outcome, accepting, refusing, answered}
 use Rattle.vocabulary.proofs.Range.{passes-holds}
-use Rattle.vocabulary.proofs.Refusal.{refusal-is, refusal-none, standing-clear, standing-first}
-use Rattle.vocabulary.proofs.Outcome.{refusal-keeps, refused-as, accepted-does}
+use Rattle.vocabulary.proofs.Refusal.{refusal-none, standing-clear}
+use Rattle.vocabulary.proofs.Outcome.{accepted-does}
+use Rattle.vocabulary.proofs.Call.{tried-first, stops as refused}
 use Rattle.hd153108.specs.declared.State.{State}
 use Rattle.hd153108.specs.declared.Answer.{Answer}
 use Rattle.hd153108.specs.Hd153108.{Chip, chip, registerAt, Component, componentAt, red, green, blue, stepped}
-use Rattle.hd153108.specs.Hd153108.{written, answers, moved, lengths, ranges, short, outside, noRegister}
+use Rattle.hd153108.specs.Hd153108.{written, answers, moved, ranges, short, outside, noRegister}
 use Rattle.hd153108.specs.Hd153108.{accessRefusals, write, read, outcome, stateOutcome}
 
 -- what every call tries first, by what fails
@@ -67,9 +68,7 @@ module _ (c : Chip) where
   pub stops : {D : Type 0} (given : D) (rows : List Row) (done : Outcome D) {n : ℕ} → n ≡ tried → (n ≡ 0 → ⊥)
       → due rows lentLength ≡ short c → (outside c ≡ true → due rows outOfRange ≡ true)
       → refusing n 0 given ≡ answered (refusalOf rows) given done
-  stops given rows done {n} e h p q =
-      let f : refusalOf rows ≡ n = standing-first _ _ rows p q (λ z. h (e ∙ z)) ∙ sym e in
-      sym (rw f (refusal-keeps n 0 given done h))
+  stops given rows done {n} e h p q = tried-first rows 0 given done (short c) (outside c) n p q e h
 
   pub access-stops : (select : ℕ) (done : Outcome Chip) {n : ℕ} → n ≡ tried → (n ≡ 0 → ⊥)
       → refusing n 0 c ≡ answered (refusalOf (accessRefusals select c)) c done
@@ -125,9 +124,8 @@ pub no-access : (c : Chip) (select : ℕ) (done : Outcome Chip) → tried c ≡ 
     → refusing 3 0 c ≡ answered (refusalOf (accessRefusals select c)) c done
 no-access c select done clear h =
     let t = standing-clear _ _ clear in
-    sym (refused-as 2 0 c done
-    (refusal-is (accessRefusals select c) (lentLength ∷ outOfRange ∷ []) noAccess _ refl (t .0, (t .1, tt))
-    (others select h)))
+    refused (accessRefusals select c) 0 c done (lentLength ∷ outOfRange ∷ []) noAccess 2 _ refl refl (t .0, (t .1, tt))
+    (others select h)
 
 -- the pointer's three places
 pub is-red : (p : ℕ) → p ≡ 0 → componentAt p ≡ red

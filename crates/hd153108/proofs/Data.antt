@@ -2,7 +2,6 @@
 use Prim.Native.Nat.{ℕ}
 use native.Mathlib.Omega.{arith}
 use mathlib.Core.Path.{_≡_, refl}
-use Rattle.hd153108.specs.declared.State.{State}
 use Rattle.hd153108.specs.Hd153108.{Chip, Table, colour, overlay, entryAt, tableOf, withTable, withState}
 use Rattle.hd153108.specs.Hd153108.{port, next, stepped, nibble, latched, put, stored, dataWrite}
 use Rattle.hd153108.proofs.Access.{is-red, is-green, is-blue}

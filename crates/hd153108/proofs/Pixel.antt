@@ -1,5 +1,5 @@
 -- Table 4 of source document 003, row by row. Assumes nothing.
-use Prim.Native.Nat.{ℕ, zero, suc}
+use Prim.Native.Nat.{ℕ, suc}
 use mathlib.Core.Path.{_≡_, refl}
 use Rattle.hd153108.specs.declared.State.{State}
 use Rattle.hd153108.specs.Hd153108.{colour, overlay, line, selected, shownTable}

@@ -2,7 +2,7 @@
 use Prim.Native.Nat.{ℕ, _+_, _*_, _≤_}
 use mathlib.Core.Path.{_≡_}
 use mathlib.Core.Bool.{Bool, true, false}
-use mathlib.Core.List.{List, [], _∷_}
+use mathlib.Core.List.{List}
 use lib.ListN.{length}
 use Rattle.vocabulary.specs.Outcome.{Outcome, accepting, refusing}
 use Rattle.hd153108.specs.Hd153108.{Chip, Table, colour, overlay, colourAt, pixelOr}

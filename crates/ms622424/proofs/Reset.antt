@@ -25,7 +25,8 @@ module _ (c : Chip) where
 
     pub reset-outside : (Holds (keptRanges (c .state)) → ⊥) → refusing 9 0 c ≡ reset c
     unfolding reset
-    reset-outside h = stops (resetRefusals c) 0 c _ (lentLength ∷ []) outOfRange 8 _ refl refl (long, tt) (not-fails _ h)
+    reset-outside h =
+        stops (resetRefusals c) 0 c _ (lentLength ∷ []) outOfRange 8 _ refl refl (long, tt) (not-fails _ h)
 
     pub reset-does : Holds (keptRanges (c .state)) → (q : List ℕ)
         → q ≡ take 0 (c .queue) ++ replicate (64 - 0) 0 ++ drop 64 (c .queue)

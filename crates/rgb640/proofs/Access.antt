@@ -9,10 +9,10 @@ use lib.Dec.{eqb}
 use lib.ListN.{length}
 use Rattle.vocabulary.specs.Range.{Holds, fails}
 use Rattle.vocabulary.specs.Refusal.{lentLength, outOfRange, noAccess, noIndex}
-use Rattle.vocabulary.specs.Outcome.{Outcome, accepting, refusing, answered}
+use Rattle.vocabulary.specs.Outcome.{Outcome, accepting, refusing}
 use Rattle.vocabulary.proofs.Range.{meets-passes, misses-fails, passes-holds}
-use Rattle.vocabulary.proofs.Refusal.{refusal-is, refusal-none, standing-clear, standing-first}
-use Rattle.vocabulary.proofs.Outcome.{refused-as, accepted-does, refusal-keeps}
+use Rattle.vocabulary.proofs.Refusal.{standing-clear}
+use Rattle.vocabulary.proofs.Call.{tried-first, stops as refused, goes-on}
 use Rattle.rgb640.specs.declared.State.{State}
 use Rattle.rgb640.specs.declared.Answer.{Answer}
 use Rattle.rgb640.specs.Rgb640.{Chip, chip, ranges, whole, within, portOf, Space, spaceOf}
@@ -37,9 +37,7 @@ module _ (d : Direction) (port : ℕ) (c : Chip) (done : Outcome Chip) where
   pub stops : {r : ℕ} → r ≡ standingOf (length (c .table)) (c .state) → (r ≡ 0 → ⊥)
       → refusing r 0 c ≡ access d port c done
   unfolding access
-  stops e h =
-      let f = standing-first _ _ (refusals d port c) refl (λ g. g) (λ g. h (e ∙ g)) in
-      sym (refusal-keeps _ 0 c done h) ∙ ap (λ (n : ℕ). answered n c done) (e ∙ sym f)
+  stops e h = tried-first (refusals d port c) 0 c done _ _ _ refl (λ g. g) e h
 
   module _ (n : Stands c) where
     -- the port
@@ -47,9 +45,8 @@ module _ (d : Direction) (port : ℕ) (c : Chip) (done : Outcome Chip) where
     unfolding access
     no-port h =
         let k = standing-clear _ _ n in
-        sym (refused-as 2 0 c done
-        (refusal-is (refusals d port c) (lentLength ∷ outOfRange ∷ []) noAccess _ refl (k .0, (k .1, tt))
-        (misses-fails (within 4 3 port) (out-of-run 4 3 port h))))
+        refused (refusals d port c) 0 c done (lentLength ∷ outOfRange ∷ []) noAccess 2 _ refl refl (k .0, (k .1, tt))
+        (misses-fails (within 4 3 port) (out-of-run 4 3 port h))
 
     module _ (l : 4 ≤ port) (u : port < 7) where
       is-port : fails (within 4 3 port) ≡ false
@@ -61,16 +58,15 @@ module _ (d : Direction) (port : ℕ) (c : Chip) (done : Outcome Chip) where
       unfolding access
       no-index h =
           let k = standing-clear _ _ n in
-          sym (refused-as 3 0 c done
-          (refusal-is (refusals d port c) (lentLength ∷ outOfRange ∷ noAccess ∷ []) noIndex _ refl
-          (k .0, (k .1, (is-port, tt))) h))
+          refused (refusals d port c) 0 c done (lentLength ∷ outOfRange ∷ noAccess ∷ []) noIndex 3 _ refl refl
+          (k .0, (k .1, (is-port, tt))) h
 
       -- none
       pub does : (eqb port 6 && not (served (spaceOf (c .state .index)) d)) ≡ false → done ≡ access d port c done
       unfolding access
       does h =
           let k = standing-clear _ _ n in
-          sym (accepted-does 0 c done (refusal-none (refusals d port c) (k .0, (k .1, (is-port, (h, tt))))))
+          goes-on (refusals d port c) 0 c done (k .0, (k .1, (is-port, (h, tt))))
 
 -- equal answers and tables leave the same
 pub leaves : {a b : Answer} {t u : List ℕ} → a ≡ b → t ≡ u → leaving a t ≡ leaving b u

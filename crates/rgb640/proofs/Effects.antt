@@ -4,10 +4,9 @@ use native.Mathlib.Omega.{arith}
 use mathlib.Core.Path.{_≡_, refl}
 use Rattle.vocabulary.proofs.Outcome.{left-holds}
 use Rattle.expand.proofs.Width.{ten-top}
-use Rattle.rgb640.specs.declared.State.{State}
 use Rattle.rgb640.specs.Rgb640.{Chip, chip, at, offset, entry, prepared}
 use Rattle.rgb640.specs.Rgb640.{Space, updateControl, paletteWrite, paletteRead, unnamed, spaceOf}
-use Rattle.rgb640.specs.Rgb640.{indexHigh, portOf, Component, red, component, moved, taken, paletteWritten}
+use Rattle.rgb640.specs.Rgb640.{indexHigh, portOf, red, component, moved, taken, paletteWritten}
 use Rattle.rgb640.specs.Rgb640.{dataWritten, written, access, write}
 
 module _ (c : Chip) where

@@ -1,4 +1,3 @@
-use mathlib.Core.Path.{_≡_}
 use Rattle.feed.specs.Feed.{before}
 use Rattle.feed.proofs.Bytes.{took-as, took-line, took-silent}
 use Rattle.feed.proofs.Texts.{lf-taken, all-taken}
@@ -34,7 +33,7 @@ same-length-8 c = c .before .before .before .before .hold .given
 returns-2 : tie.Need-returns-2
 returns-2 c =
     let t = c .before .before .before .before .before .before .before .before
-     .before .before .before .before .before .before .before .args .text .now in
+    .before .before .before .before .before .before .before .args .text .now in
     let kept = c .before .before .before .before .before .keep-all in (
       kept .ensures .1,
       took-as (all-taken t _ (kept .ensures .0) _ _ (c .before .if1 .left) (kept .ensures .2 _))

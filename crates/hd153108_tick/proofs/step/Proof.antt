@@ -1,7 +1,4 @@
 use Rattle.hd153108.proofs.Blink.{tick-refused, tick-accepted}
-use native.Mathlib.Omega.{arith}
-use mathlib.Core.Path.{sym}
-use Rattle.hd153108.specs.Hd153108.{tick}
 use borrow.Author.Needs.{needs}
 use Rattle.hd153108_tick.proofs.step.Statement.{statement}
 use Rattle.hd153108_tick.proofs.step.Tie as tie

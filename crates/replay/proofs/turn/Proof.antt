@@ -7,12 +7,12 @@ returns : tie.Need-returns
 returns c =
     omega (
       arith,
-      c .before .before .before .before .before .before .before .before .before .before .before .before
-          .before .before .before .before .before .before .before .before .before .before .before .before .before .before
-          .before .before .before .before .before .before .before .before .before .before .before .before .before .pre,
-      c
-          .before .before .before .before .before .before .before .before .before .before .before .before .before .before
-          .before .before .take .ensures,
+      c .before .before .before .before .before .before .before .before .before .before .before .before .before
+          .before .before .before .before .before .before .before .before .before .before .before .before
+          .before .before .before .before .before .before .before .before .before .before .before .before
+          .before .before .pre,
+      c .before .before .before .before .before .before .before .before .before .before .before .before .before
+          .before .before .before .take .ensures,
     )
 
 pub turn-spec : {M : Type 1} → statement M

@@ -53,8 +53,8 @@ loop-again c =
 
 returns-3 : tie.Need-returns-3 Inv-loop μ-loop
 returns-3 c =
-    sym (starts-all (c .before .before .before .args .word .now) (c .before .before .before .args .text .now) (c .before .loop .i)
-    (search needs)) ∙ c .before .loop .inv .2
+    let a = c .before .before .before .args in
+    sym (starts-all (a .word .now) (a .text .now) (c .before .loop .i) (search needs)) ∙ c .before .loop .inv .2
 
 pub begins-spec : {M : Type 1} → statement M
 begins-spec =
