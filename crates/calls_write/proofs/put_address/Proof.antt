@@ -12,11 +12,8 @@ put-call-requires : tie.Need-put-call-requires
 unfolding callBytes
 put-call-requires c κs = rw (c .before .if1 .left) at (c .before .before .before .pre)
 
-same-length : tie.Need-same-length
-same-length c = search needs
-
 returns-2 : tie.Need-returns-2
 returns-2 c = rw (c .before .before .before .before .if1 .left) (c .before .before .put-call .ensures)
 
 pub put-address-spec : {M : Type 1} → statement M
-put-address-spec = tie.close (tie.spec returns put-call-requires same-length returns-2)
+put-address-spec = tie.close (tie.spec returns put-call-requires (λ c. search needs) returns-2)

@@ -6,20 +6,8 @@ use borrow.Author.Needs.{needs}
 use Rattle.calls_write.proofs.put_call.Statement.{statement}
 use Rattle.calls_write.proofs.put_call.Tie as tie
 
-slice-write-out : tie.Need-slice-write-out
-slice-write-out c = search needs
-
-add-out : tie.Need-add-out
-add-out c = search needs
-
 slice-write-out-2 : tie.Need-slice-write-out-2
 slice-write-out-2 c = simp length-set (omega arith)
-
-add-result : tie.Need-add-result
-add-result c = search needs
-
-same-length : tie.Need-same-length
-same-length c = search needs
 
 returns : tie.Need-returns
 unfolding callBytes
@@ -27,4 +15,11 @@ returns c = two-stored (c .args .out .now) (c .args .at) (c .args .select) (c .a
 
 pub put-call-spec : {M : Type 1} → statement M
 put-call-spec =
-    tie.close (tie.spec slice-write-out add-out slice-write-out-2 add-result same-length returns)
+    tie.close
+    (tie.spec
+    (λ c. search needs)
+    (λ c. search needs)
+    slice-write-out-2
+    (λ c. search needs)
+    (λ c. search needs)
+    returns)

@@ -26,9 +26,6 @@ put-colour-requires c κs =
           (c .before .before .before .put-address .ensures),
     )
 
-same-length : tie.Need-same-length
-same-length c = search needs
-
 returns-2 : tie.Need-returns-2
 returns-2 c =
     let a = c .before .before .before .before .before .before .before .before .before .before .args in
@@ -40,4 +37,4 @@ returns-2 c =
 
 pub put-entry-spec : {M : Type 1} → statement M
 put-entry-spec =
-    tie.close (tie.spec returns put-address-requires put-colour-requires same-length returns-2)
+    tie.close (tie.spec returns put-address-requires put-colour-requires (λ c. search needs) returns-2)

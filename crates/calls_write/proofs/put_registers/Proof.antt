@@ -5,9 +5,6 @@ use borrow.Author.Needs.{needs}
 use Rattle.calls_write.proofs.put_registers.Statement.{statement}
 use Rattle.calls_write.proofs.put_registers.Tie as tie
 
-slice-write-out : tie.Need-slice-write-out
-slice-write-out c = search needs
-
 slice-write-out-2 : tie.Need-slice-write-out-2
 slice-write-out-2 c = simp length-set (omega arith)
 
@@ -29,9 +26,6 @@ slice-write-out-7 c = simp length-set (omega arith)
 slice-write-out-8 : tie.Need-slice-write-out-8
 slice-write-out-8 c = simp length-set (omega arith)
 
-same-length : tie.Need-same-length
-same-length c = search needs
-
 returns : tie.Need-returns
 returns c = eight-stored (c .args .out .now) _ _ _ _ _ _ _ _ (search needs)
 
@@ -39,7 +33,7 @@ pub put-registers-spec : {M : Type 1} → statement M
 put-registers-spec =
     tie.close
     (tie.spec
-    slice-write-out
+    (λ c. search needs)
     slice-write-out-2
     slice-write-out-3
     slice-write-out-4
@@ -47,5 +41,5 @@ put-registers-spec =
     slice-write-out-6
     slice-write-out-7
     slice-write-out-8
-    same-length
+    (λ c. search needs)
     returns)

@@ -18,27 +18,12 @@ abbrev μ-loop : tie.MeasureT-loop
 loop-holds : tie.Need-loop-holds Inv-loop μ-loop
 loop-holds c = (search needs, begins _ (c .before .before .args .out .now) (c .before .before .pre .1))
 
-mul-x : tie.Need-mul-x Inv-loop μ-loop
-mul-x c = search needs
-
-shared-slice-read-x : tie.Need-shared-slice-read-x Inv-loop μ-loop
-shared-slice-read-x c = search needs
-
-cast-put-entry : tie.Need-cast-put-entry Inv-loop μ-loop
-cast-put-entry c = search needs
-
 put-entry-requires : tie.Need-put-entry-requires Inv-loop μ-loop
 put-entry-requires c κs =
     let l = c .before .before .before .loop in
     entry-fits (c .before .before .before .before .before .before .args .select)
     (c .before .before .before .before .before .before .args .kept .now) (l .entry) (l .follows) (l .inv .1)
     (search needs)
-
-add-entry : tie.Need-add-entry Inv-loop μ-loop
-add-entry c = search needs
-
-loop-less : tie.Need-loop-less Inv-loop μ-loop
-loop-less c = search needs
 
 loop-again : tie.Need-loop-again Inv-loop μ-loop
 loop-again c =
@@ -49,9 +34,6 @@ loop-again c =
           (one-more (a .select) (a .kept .now) (l .entry) (l .follows) _ (search needs) (kept-there _))
           (c .before .before .put-entry .ensures),
     )
-
-same-length : tie.Need-same-length Inv-loop μ-loop
-same-length c = search needs
 
 returns : tie.Need-returns Inv-loop μ-loop
 returns c =
@@ -67,12 +49,12 @@ table-calls-spec =
     Inv-loop
     μ-loop
     loop-holds
-    mul-x
-    shared-slice-read-x
-    cast-put-entry
+    (λ c. search needs)
+    (λ c. search needs)
+    (λ c. search needs)
     put-entry-requires
-    add-entry
-    loop-less
+    (λ c. search needs)
+    (λ c. search needs)
     loop-again
-    same-length
+    (λ c. search needs)
     returns)

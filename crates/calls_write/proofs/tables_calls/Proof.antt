@@ -3,28 +3,10 @@ use borrow.Author.Needs.{needs}
 use Rattle.calls_write.proofs.tables_calls.Statement.{statement}
 use Rattle.calls_write.proofs.tables_calls.Tie as tie
 
-sub-table-calls : tie.Need-sub-table-calls
-sub-table-calls c = search needs
-
-part-table-calls-start : tie.Need-part-table-calls-start
-part-table-calls-start c = search needs
-
-part-table-calls-end : tie.Need-part-table-calls-end
-part-table-calls-end c = search needs
-
 table-calls-requires : tie.Need-table-calls-requires
 table-calls-requires c κs =
     let a = c .before .before .before .before .args in
     (search needs, overlays-fit (a .kept .now) (a .out .now) (c .before .before .before .before .pre .1))
-
-sub-table-calls-2 : tie.Need-sub-table-calls-2
-sub-table-calls-2 c = search needs
-
-part-table-calls-start-2 : tie.Need-part-table-calls-start-2
-part-table-calls-start-2 c = search needs
-
-part-table-calls-end-2 : tie.Need-part-table-calls-end-2
-part-table-calls-end-2 c = search needs
 
 sub-table-calls-3 : tie.Need-sub-table-calls-3
 sub-table-calls-3 c =
@@ -41,9 +23,6 @@ part-table-calls-start-3 c =
     (c .before .before .before .table-calls .ensures) in
     search needs
 
-part-table-calls-end-3 : tie.Need-part-table-calls-end-3
-part-table-calls-end-3 c = search needs
-
 table-calls-requires-2 : tie.Need-table-calls-requires-2
 table-calls-requires-2 c κs =
     let a = c .before .before .before .before .before .before .before .before .before .args in (
@@ -52,9 +31,6 @@ table-calls-requires-2 c κs =
           (c .before .before .before .before .before .before .before .before .before .pre .1) _
           (c .before .before .before .before .table-calls .ensures),
     )
-
-same-length : tie.Need-same-length
-same-length c = search needs
 
 returns : tie.Need-returns
 returns c =
@@ -68,16 +44,16 @@ pub tables-calls-spec : {M : Type 1} → statement M
 tables-calls-spec =
     tie.close
     (tie.spec
-    sub-table-calls
-    part-table-calls-start
-    part-table-calls-end
+    (λ c. search needs)
+    (λ c. search needs)
+    (λ c. search needs)
     table-calls-requires
-    sub-table-calls-2
-    part-table-calls-start-2
-    part-table-calls-end-2
+    (λ c. search needs)
+    (λ c. search needs)
+    (λ c. search needs)
     sub-table-calls-3
     part-table-calls-start-3
-    part-table-calls-end-3
+    (λ c. search needs)
     table-calls-requires-2
-    same-length
+    (λ c. search needs)
     returns)

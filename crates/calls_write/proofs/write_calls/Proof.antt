@@ -23,9 +23,6 @@ part-tables-calls-start c =
     (c .before .before .before .before .before .before .pre .1) _ (c .before .before .register-calls .ensures) in
     search needs
 
-part-tables-calls-end : tie.Need-part-tables-calls-end
-part-tables-calls-end c = search needs
-
 tables-calls-requires : tie.Need-tables-calls-requires
 tables-calls-requires c κs =
     let a = c .before .before .before .before .before .before .before .args in (
@@ -34,9 +31,6 @@ tables-calls-requires c κs =
           (c .before .before .before .before .before .before .before .pre .1) _
           (c .before .before .before .register-calls .ensures),
     )
-
-same-length : tie.Need-same-length
-same-length c = search needs
 
 returns : tie.Need-returns
 returns c =
@@ -53,7 +47,7 @@ write-calls-spec =
     register-calls-requires
     sub-tables-calls
     part-tables-calls-start
-    part-tables-calls-end
+    (λ c. search needs)
     tables-calls-requires
-    same-length
+    (λ c. search needs)
     returns)

@@ -3,15 +3,9 @@ use borrow.Author.Needs.{needs}
 use Rattle.expand.proofs.eight.Statement.{statement}
 use Rattle.expand.proofs.eight.Tie as tie
 
-mul-result : tie.Need-mul-result
-mul-result c = search needs
-
-add-result : tie.Need-add-result
-add-result c = search needs
-
 returns : tie.Need-returns
 unfolding ten
 returns c = search needs
 
 pub eight-spec : {M : Type 1} → statement M
-eight-spec = tie.close (tie.spec mul-result add-result returns)
+eight-spec = tie.close (tie.spec (λ c. search needs) (λ c. search needs) returns)

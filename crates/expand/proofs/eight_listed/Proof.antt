@@ -4,15 +4,9 @@ use borrow.Author.Needs.{needs}
 use Rattle.expand.proofs.eight_listed.Statement.{statement}
 use Rattle.expand.proofs.eight_listed.Tie as tie
 
-mul-result : tie.Need-mul-result
-mul-result c = search needs
-
-array-read-result : tie.Need-array-read-result
-array-read-result c = search needs
-
 returns : tie.Need-returns
 unfolding ten
 returns c = table-rule (ten 8) 256 (c .args .v) (search needs)
 
 pub eight-listed-spec : {M : Type 1} → statement M
-eight-listed-spec = tie.close (tie.spec mul-result array-read-result returns)
+eight-listed-spec = tie.close (tie.spec (λ c. search needs) (λ c. search needs) returns)

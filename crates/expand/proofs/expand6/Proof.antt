@@ -9,14 +9,8 @@ use Rattle.expand.proofs.expand6.Tie as tie
 returns : tie.Need-returns
 returns c = expansion-refused 6 _ (search needs)
 
-cast-six-listed : tie.Need-cast-six-listed
-cast-six-listed c = search needs
-
-six-listed-requires : tie.Need-six-listed-requires
-six-listed-requires c κs = search needs
-
 returns-2 : tie.Need-returns-2
 returns-2 c = ap meaning (ap Ten (c .six-listed .ensures)) ∙ expansion-accepted 6 _ (search needs)
 
 pub expand6-spec : {M : Type 1} → statement M
-expand6-spec = tie.close (tie.spec returns cast-six-listed six-listed-requires returns-2)
+expand6-spec = tie.close (tie.spec returns (λ c. search needs) (λ c κs. search needs) returns-2)

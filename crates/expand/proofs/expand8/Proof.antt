@@ -9,14 +9,8 @@ use Rattle.expand.proofs.expand8.Tie as tie
 returns : tie.Need-returns
 returns c = expansion-refused 8 _ (search needs)
 
-cast-eight-listed : tie.Need-cast-eight-listed
-cast-eight-listed c = search needs
-
-eight-listed-requires : tie.Need-eight-listed-requires
-eight-listed-requires c κs = search needs
-
 returns-2 : tie.Need-returns-2
 returns-2 c = ap meaning (ap Ten (c .eight-listed .ensures)) ∙ expansion-accepted 8 _ (search needs)
 
 pub expand8-spec : {M : Type 1} → statement M
-expand8-spec = tie.close (tie.spec returns cast-eight-listed eight-listed-requires returns-2)
+expand8-spec = tie.close (tie.spec returns (λ c. search needs) (λ c κs. search needs) returns-2)

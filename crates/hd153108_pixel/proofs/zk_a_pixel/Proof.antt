@@ -5,23 +5,11 @@ use borrow.Author.Needs.{needs}
 use Rattle.hd153108_pixel.proofs.zk_a_pixel.Statement.{statement}
 use Rattle.hd153108_pixel.proofs.zk_a_pixel.Tie as tie
 
-picked-requires : tie.Need-picked-requires
-picked-requires c κs = search needs
-
-enum-known-p : tie.Need-enum-known-p
-enum-known-p c = search needs
-
 shown-at-requires : tie.Need-shown-at-requires
 shown-at-requires c κs = inside-as (c .before .before .before .picked .ensures) (c .before .p .given .1)
 
-enum-known-p-2 : tie.Need-enum-known-p-2
-enum-known-p-2 c = search needs
-
 shown-at-requires-2 : tie.Need-shown-at-requires-2
 shown-at-requires-2 c κs = inside-as (c .before .before .before .picked .ensures) (c .before .p2 .given .1)
-
-enum-known-p-3 : tie.Need-enum-known-p-3
-enum-known-p-3 c = search needs
 
 returns : tie.Need-returns
 returns c =
@@ -40,12 +28,12 @@ pub zk-a-pixel-spec : {M : Type 1} → statement M
 zk-a-pixel-spec =
     tie.close
     (tie.spec
-    picked-requires
-    enum-known-p
+    (λ c κs. search needs)
+    (λ c. search needs)
     shown-at-requires
-    enum-known-p-2
+    (λ c. search needs)
     shown-at-requires-2
-    enum-known-p-3
+    (λ c. search needs)
     returns
     returns-2
     returns-3)

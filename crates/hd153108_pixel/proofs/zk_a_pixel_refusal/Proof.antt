@@ -3,18 +3,6 @@ use borrow.Author.Needs.{needs}
 use Rattle.hd153108_pixel.proofs.zk_a_pixel_refusal.Statement.{statement}
 use Rattle.hd153108_pixel.proofs.zk_a_pixel_refusal.Tie as tie
 
-picked-requires : tie.Need-picked-requires
-picked-requires c κs = search needs
-
-enum-told : tie.Need-enum-told
-enum-told c = search needs
-
-enum-told-2 : tie.Need-enum-told-2
-enum-told-2 c = search needs
-
-enum-known-p : tie.Need-enum-known-p
-enum-known-p c = search needs
-
 returns : tie.Need-returns
 returns c = refusal-as (c .before .before .picked .ensures) (c .enum-told .given .1)
 
@@ -27,4 +15,11 @@ returns-3 c = refusal-as (c .before .before .before .picked .ensures) (c .before
 pub zk-a-pixel-refusal-spec : {M : Type 1} → statement M
 zk-a-pixel-refusal-spec =
     tie.close
-    (tie.spec picked-requires enum-told enum-told-2 enum-known-p returns returns-2 returns-3)
+    (tie.spec
+    (λ c κs. search needs)
+    (λ c. search needs)
+    (λ c. search needs)
+    (λ c. search needs)
+    returns
+    returns-2
+    returns-3)

@@ -3,12 +3,9 @@ use borrow.Author.Needs.{needs}
 use Rattle.hd153108_port.proofs.blink_off.Statement.{statement}
 use Rattle.hd153108_port.proofs.blink_off.Tie as tie
 
-on-time-requires : tie.Need-on-time-requires
-on-time-requires c κs = search needs
-
 returns : tie.Need-returns
 unfolding isOff
 returns c = rw (c .before .on-time .ensures)
 
 pub blink-off-spec : {M : Type 1} → statement M
-blink-off-spec = tie.close (tie.spec on-time-requires returns)
+blink-off-spec = tie.close (tie.spec (λ c κs. search needs) returns)

@@ -19,9 +19,6 @@ returns-3 c = sym (not-meets _ (λ g. omega arith))
 returns-4 : tie.Need-returns-4
 returns-4 c = sym (not-meets _ (λ g. c .if4 .taken (g .1 .1 .1 .1 .1 .1 .1 .0)))
 
-period-of-requires : tie.Need-period-of-requires
-period-of-requires c κs = search needs
-
 returns-5 : tie.Need-returns-5
 returns-5 c =
     let s = c .before .before .before .before .before .before .before .before .before .before .before .args .s in
@@ -30,4 +27,4 @@ returns-5 c =
     (λ e. let g = meets-holds (ranges s) e in lt-ltb (s .clock .position) (c .before .period-of .result) (omega arith))
 
 pub good-spec : {M : Type 1} → statement M
-good-spec = tie.close (tie.spec returns returns-2 returns-3 returns-4 period-of-requires returns-5)
+good-spec = tie.close (tie.spec returns returns-2 returns-3 returns-4 (λ c κs. search needs) returns-5)

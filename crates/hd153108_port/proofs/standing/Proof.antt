@@ -12,9 +12,6 @@ returns c = stands-short _ (not-fails _ (λ g. c .if1 .taken (g .0)))
 returns-2 : tie.Need-returns-2
 returns-2 c = stands-short _ (not-fails _ (λ g. c .if2 .taken (g .1 .0)))
 
-good-requires : tie.Need-good-requires
-good-requires c κs = search needs
-
 returns-3 : tie.Need-returns-3
 returns-3 c =
     stands-outside
@@ -28,4 +25,4 @@ returns-4 c =
     (meets-passes _ (sym (c .before .good2 .ensures) ∙ not-false _ (c .if3 .left)))
 
 pub standing-spec : {M : Type 1} → statement M
-standing-spec = tie.close (tie.spec returns returns-2 good-requires returns-3 returns-4)
+standing-spec = tie.close (tie.spec returns returns-2 (λ c κs. search needs) returns-3 returns-4)

@@ -4,15 +4,6 @@ use borrow.Author.Needs.{needs}
 use Rattle.hd153108_read.proofs.stepped.Statement.{statement}
 use Rattle.hd153108_read.proofs.stepped.Tie as tie
 
-port-requires : tie.Need-port-requires
-port-requires c κs = search needs
-
-port-requires-2 : tie.Need-port-requires-2
-port-requires-2 c κs = search needs
-
-port-requires-3 : tie.Need-port-requires-3
-port-requires-3 c κs = search needs
-
 returns : tie.Need-returns
 unfolding stepped
 returns c = rw (is-red _ (c .before .match .keys1)) (c .port .ensures)
@@ -27,4 +18,11 @@ returns-3 c = rw (is-blue _ (c .before .match .rest)) (c .port3 .ensures)
 
 pub stepped-spec : {M : Type 1} → statement M
 stepped-spec =
-    tie.close (tie.spec port-requires port-requires-2 port-requires-3 returns returns-2 returns-3)
+    tie.close
+    (tie.spec
+    (λ c κs. search needs)
+    (λ c κs. search needs)
+    (λ c κs. search needs)
+    returns
+    returns-2
+    returns-3)

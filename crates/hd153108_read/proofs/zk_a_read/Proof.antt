@@ -14,12 +14,6 @@ at c = let a = c .before .before .before .before .args in chip (a .s) (a .colour
 clear : (c : tie.Else1) → tried (at c) ≡ 0
 clear c = sym (c .before .standing .ensures) ∙ c .if1 .left
 
-standing-requires : tie.Need-standing-requires
-standing-requires c κs = search needs
-
-refused-requires : tie.Need-refused-requires
-refused-requires c κs = search needs
-
 returns : tie.Need-returns
 unfolding read
 returns c =
@@ -27,44 +21,11 @@ returns c =
     access-stops _ (c .before .before .before .before .before .args .select) _ (c .before .before .standing .ensures)
     (c .before .if1 .taken)
 
-port-requires : tie.Need-port-requires
-port-requires c κs = search needs
-
-accepted-requires : tie.Need-accepted-requires
-accepted-requires c κs = search needs
-
-cast-data-read : tie.Need-cast-data-read
-cast-data-read c = search needs
-
-next-colour-requires : tie.Need-next-colour-requires
-next-colour-requires c κs = search needs
-
 data-read-requires : tie.Need-data-read-requires
 data-read-requires c κs = let e = c .before .before .before .before in let g = known (at e) (clear e) in omega arith
 
-cast-data-read-2 : tie.Need-cast-data-read-2
-cast-data-read-2 c = search needs
-
-next-overlay-requires : tie.Need-next-overlay-requires
-next-overlay-requires c κs = search needs
-
 data-read-requires-2 : tie.Need-data-read-requires-2
 data-read-requires-2 c κs = let e = c .before .before .before .before in let g = known (at e) (clear e) in omega arith
-
-accepted-requires-2 : tie.Need-accepted-requires-2
-accepted-requires-2 c κs = search needs
-
-accepted-requires-3 : tie.Need-accepted-requires-3
-accepted-requires-3 c κs = search needs
-
-accepted-requires-4 : tie.Need-accepted-requires-4
-accepted-requires-4 c κs = search needs
-
-accepted-requires-5 : tie.Need-accepted-requires-5
-accepted-requires-5 c κs = search needs
-
-refused-requires-2 : tie.Need-refused-requires-2
-refused-requires-2 c κs = search needs
 
 returns-2 : tie.Need-returns-2
 unfolding registerAt answers moved
@@ -118,22 +79,22 @@ pub zk-a-read-spec : {M : Type 1} → statement M
 zk-a-read-spec =
     tie.close
     (tie.spec
-    standing-requires
-    refused-requires
+    (λ c κs. search needs)
+    (λ c κs. search needs)
     returns
-    port-requires
-    accepted-requires
-    cast-data-read
-    next-colour-requires
+    (λ c κs. search needs)
+    (λ c κs. search needs)
+    (λ c. search needs)
+    (λ c κs. search needs)
     data-read-requires
-    cast-data-read-2
-    next-overlay-requires
+    (λ c. search needs)
+    (λ c κs. search needs)
     data-read-requires-2
-    accepted-requires-2
-    accepted-requires-3
-    accepted-requires-4
-    accepted-requires-5
-    refused-requires-2
+    (λ c κs. search needs)
+    (λ c κs. search needs)
+    (λ c κs. search needs)
+    (λ c κs. search needs)
+    (λ c κs. search needs)
     returns-2
     returns-3
     returns-4

@@ -5,17 +5,11 @@ use borrow.Author.Needs.{needs}
 use Rattle.hd153108_shown.proofs.masked_byte.Statement.{statement}
 use Rattle.hd153108_shown.proofs.masked_byte.Tie as tie
 
-sub-result : tie.Need-sub-result
-sub-result c = search needs
-
 returns : tie.Need-returns
 returns c =
     let a = c .before .args in
     let on = masked-on 8 0 (a .read) (a .blink) (a .byte) (255 - a .read) (omega arith) (omega arith) in
     rw (c .if1 .taken, on, masked-off 8 (a .read) (a .blink) (a .byte))
-
-sub-result-2 : tie.Need-sub-result-2
-sub-result-2 c = search needs
 
 returns-2 : tie.Need-returns-2
 returns-2 c =
@@ -23,4 +17,4 @@ returns-2 c =
     rw (c .if1 .left, masked-on 8 0 (a .read) (a .blink) (a .byte) (255 - a .read) (omega arith) (omega arith))
 
 pub masked-byte-spec : {M : Type 1} → statement M
-masked-byte-spec = tie.close (tie.spec sub-result returns sub-result-2 returns-2)
+masked-byte-spec = tie.close (tie.spec (λ c. search needs) returns (λ c. search needs) returns-2)

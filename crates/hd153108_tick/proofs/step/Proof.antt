@@ -3,20 +3,11 @@ use borrow.Author.Needs.{needs}
 use Rattle.hd153108_tick.proofs.step.Statement.{statement}
 use Rattle.hd153108_tick.proofs.step.Tie as tie
 
-period-of-requires : tie.Need-period-of-requires
-period-of-requires c κs = search needs
-
 returns : tie.Need-returns
 returns c = tick-refused _ _ _ (c .before .period-of .ensures) (c .if1 .taken)
-
-add-t5 : tie.Need-add-t5
-add-t5 c = search needs
-
-rem-t6 : tie.Need-rem-t6
-rem-t6 c = search needs
 
 returns-2 : tie.Need-returns-2
 returns-2 c = tick-accepted _ _ _ (c .before .period-of .ensures) (search needs) (c .if1 .left)
 
 pub step-spec : {M : Type 1} → statement M
-step-spec = tie.close (tie.spec period-of-requires returns add-t5 rem-t6 returns-2)
+step-spec = tie.close (tie.spec (λ c κs. search needs) returns (λ c. search needs) (λ c. search needs) returns-2)

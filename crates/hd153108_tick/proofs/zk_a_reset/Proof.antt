@@ -7,15 +7,6 @@ use borrow.Author.Needs.{needs}
 use Rattle.hd153108_tick.proofs.zk_a_reset.Statement.{statement}
 use Rattle.hd153108_tick.proofs.zk_a_reset.Tie as tie
 
-port-requires : tie.Need-port-requires
-port-requires c κs = search needs
-
-registers-requires : tie.Need-registers-requires
-registers-requires c κs = search needs
-
-accepted-requires : tie.Need-accepted-requires
-accepted-requires c κs = search needs
-
 returns : tie.Need-returns
 unfolding reset
 returns c =
@@ -25,4 +16,4 @@ returns c =
     ap (λ (s : State). registers s 0 0 0 (clock 0 0)) (c .before .before .port .ensures))
 
 pub zk-a-reset-spec : {M : Type 1} → statement M
-zk-a-reset-spec = tie.close (tie.spec port-requires registers-requires accepted-requires returns)
+zk-a-reset-spec = tie.close (tie.spec (λ c κs. search needs) (λ c κs. search needs) (λ c κs. search needs) returns)

@@ -5,18 +5,6 @@ use borrow.Author.Needs.{needs}
 use Rattle.hd153108_write.proofs.data_write.Statement.{statement}
 use Rattle.hd153108_write.proofs.data_write.Tie as tie
 
-port-requires : tie.Need-port-requires
-port-requires c κs = search needs
-
-port-requires-2 : tie.Need-port-requires-2
-port-requires-2 c κs = search needs
-
-put-colour-requires : tie.Need-put-colour-requires
-put-colour-requires c κs = search needs
-
-port-requires-3 : tie.Need-port-requires-3
-port-requires-3 c κs = search needs
-
 returns : tie.Need-returns
 unfolding stepped latched stored
 returns c = rw (is-red _ (c .before .match .keys1)) (c .port .ensures, refl)
@@ -24,9 +12,6 @@ returns c = rw (is-red _ (c .before .match .keys1)) (c .port .ensures, refl)
 returns-2 : tie.Need-returns-2
 unfolding stepped latched stored
 returns-2 c = rw (is-green _ (c .before .match .keys2)) (c .port2 .ensures, refl)
-
-same-length : tie.Need-same-length
-same-length c = search needs
 
 returns-3 : tie.Need-returns-3
 unfolding stepped latched stored
@@ -38,11 +23,11 @@ pub data-write-spec : {M : Type 1} → statement M
 data-write-spec =
     tie.close
     (tie.spec
-    port-requires
-    port-requires-2
-    put-colour-requires
-    port-requires-3
+    (λ c κs. search needs)
+    (λ c κs. search needs)
+    (λ c κs. search needs)
+    (λ c κs. search needs)
     returns
     returns-2
-    same-length
+    (λ c. search needs)
     returns-3)

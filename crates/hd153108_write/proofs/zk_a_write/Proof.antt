@@ -14,12 +14,6 @@ at c = let a = c .before .before .before .before .args in chip (a .s) (a .colour
 clear : (c : tie.Else1) → tried (at c) ≡ 0
 clear c = sym (c .before .standing .ensures) ∙ c .if1 .left
 
-standing-requires : tie.Need-standing-requires
-standing-requires c κs = search needs
-
-refused-requires : tie.Need-refused-requires
-refused-requires c κs = search needs
-
 returns : tie.Need-returns
 unfolding write
 returns c =
@@ -27,71 +21,17 @@ returns c =
     access-stops _ (c .before .before .before .before .before .args .select) _ (c .before .before .standing .ensures)
     (c .before .if1 .taken)
 
-port-requires : tie.Need-port-requires
-port-requires c κs = search needs
-
-accepted-requires : tie.Need-accepted-requires
-accepted-requires c κs = search needs
-
-cast-data-write : tie.Need-cast-data-write
-cast-data-write c = search needs
-
-next-colour-requires : tie.Need-next-colour-requires
-next-colour-requires c κs = search needs
-
 data-write-requires : tie.Need-data-write-requires
 data-write-requires c κs = let e = c .before .before .before .before in let g = known (at e) (clear e) in omega arith
 
-accepted-requires-2 : tie.Need-accepted-requires-2
-accepted-requires-2 c κs = search needs
-
-cast-data-write-2 : tie.Need-cast-data-write-2
-cast-data-write-2 c = search needs
-
-next-overlay-requires : tie.Need-next-overlay-requires
-next-overlay-requires c κs = search needs
-
 data-write-requires-2 : tie.Need-data-write-requires-2
 data-write-requires-2 c κs = let e = c .before .before .before .before in let g = known (at e) (clear e) in omega arith
-
-accepted-requires-3 : tie.Need-accepted-requires-3
-accepted-requires-3 c κs = search needs
-
-registers-requires : tie.Need-registers-requires
-registers-requires c κs = search needs
-
-accepted-requires-4 : tie.Need-accepted-requires-4
-accepted-requires-4 c κs = search needs
-
-registers-requires-2 : tie.Need-registers-requires-2
-registers-requires-2 c κs = search needs
-
-accepted-requires-5 : tie.Need-accepted-requires-5
-accepted-requires-5 c κs = search needs
-
-registers-requires-3 : tie.Need-registers-requires-3
-registers-requires-3 c κs = search needs
-
-accepted-requires-6 : tie.Need-accepted-requires-6
-accepted-requires-6 c κs = search needs
-
-registers-requires-4 : tie.Need-registers-requires-4
-registers-requires-4 c κs = search needs
-
-accepted-requires-7 : tie.Need-accepted-requires-7
-accepted-requires-7 c κs = search needs
-
-refused-requires-2 : tie.Need-refused-requires-2
-refused-requires-2 c κs = search needs
 
 returns-2 : tie.Need-returns-2
 unfolding registerAt written
 returns-2 c =
     write-arm _ _ (clear (c .before .before .before .before)) 0 _ (c .before .before .match .keys1) refl
     (accepts-as (c .accepted .ensures) (c .before .port .ensures) refl refl)
-
-same-length : tie.Need-same-length
-same-length c = search needs
 
 returns-3 : tie.Need-returns-3
 unfolding registerAt written dataWrite
@@ -101,9 +41,6 @@ returns-3 c =
     (c .before .before .before .before .before .before .match .keys2) refl
     (accepts-as (c .accepted2 .ensures) (d .0 ∙ steps _ _ (c .before .before .before .before .next-colour .ensures))
     (d .1) refl)
-
-same-length-2 : tie.Need-same-length-2
-same-length-2 c = search needs
 
 returns-4 : tie.Need-returns-4
 unfolding registerAt written dataWrite
@@ -148,32 +85,32 @@ pub zk-a-write-spec : {M : Type 1} → statement M
 zk-a-write-spec =
     tie.close
     (tie.spec
-    standing-requires
-    refused-requires
+    (λ c κs. search needs)
+    (λ c κs. search needs)
     returns
-    port-requires
-    accepted-requires
-    cast-data-write
-    next-colour-requires
+    (λ c κs. search needs)
+    (λ c κs. search needs)
+    (λ c. search needs)
+    (λ c κs. search needs)
     data-write-requires
-    accepted-requires-2
-    cast-data-write-2
-    next-overlay-requires
+    (λ c κs. search needs)
+    (λ c. search needs)
+    (λ c κs. search needs)
     data-write-requires-2
-    accepted-requires-3
-    registers-requires
-    accepted-requires-4
-    registers-requires-2
-    accepted-requires-5
-    registers-requires-3
-    accepted-requires-6
-    registers-requires-4
-    accepted-requires-7
-    refused-requires-2
+    (λ c κs. search needs)
+    (λ c κs. search needs)
+    (λ c κs. search needs)
+    (λ c κs. search needs)
+    (λ c κs. search needs)
+    (λ c κs. search needs)
+    (λ c κs. search needs)
+    (λ c κs. search needs)
+    (λ c κs. search needs)
+    (λ c κs. search needs)
     returns-2
-    same-length
+    (λ c. search needs)
     returns-3
-    same-length-2
+    (λ c. search needs)
     returns-4
     returns-5
     returns-6

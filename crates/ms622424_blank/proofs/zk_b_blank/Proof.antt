@@ -22,15 +22,6 @@ known c =
     let map = c .before .before .before .before .before .args .map .now in
     sound _ (sym (c .before .standing-tables .ensures map refl) ∙ c .if1 .left)
 
-standing-tables-requires : tie.Need-standing-tables-requires
-standing-tables-requires c κs = search needs
-
-refused-requires : tie.Need-refused-requires
-refused-requires c κs = search needs
-
-same-length : tie.Need-same-length
-same-length c = search needs
-
 returns : tie.Need-returns
 unfolding blank
 returns c =
@@ -42,12 +33,6 @@ returns c =
     (c .before .before .standing-tables .ensures (d .map) refl)
     (c .before .if1 .taken)
 
-refused-requires-2 : tie.Need-refused-requires-2
-refused-requires-2 c κs = search needs
-
-same-length-2 : tie.Need-same-length-2
-same-length-2 c = search needs
-
 returns-2 : tie.Need-returns-2
 returns-2 c =
     let past = c .before .before in
@@ -56,18 +41,6 @@ returns-2 c =
 
 transfer-requires : tie.Need-transfer-requires
 transfer-requires c κs = known (c .before .before .before)
-
-sub-n : tie.Need-sub-n
-sub-n c = search needs
-
-accepted-requires : tie.Need-accepted-requires
-accepted-requires c κs = search needs
-
-same-length-3 : tie.Need-same-length-3
-same-length-3 c = search needs
-
-same-length-4 : tie.Need-same-length-4
-same-length-4 c = search needs
 
 returns-3 : tie.Need-returns-3
 returns-3 c =
@@ -81,16 +54,16 @@ pub zk-b-blank-spec : {M : Type 1} → statement M
 zk-b-blank-spec =
     tie.close
     (tie.spec
-    standing-tables-requires
-    refused-requires
-    same-length
+    (λ c κs. search needs)
+    (λ c κs. search needs)
+    (λ c. search needs)
     returns
-    refused-requires-2
-    same-length-2
+    (λ c κs. search needs)
+    (λ c. search needs)
     returns-2
     transfer-requires
-    sub-n
-    accepted-requires
-    same-length-3
-    same-length-4
+    (λ c. search needs)
+    (λ c κs. search needs)
+    (λ c. search needs)
+    (λ c. search needs)
     returns-3)

@@ -14,14 +14,8 @@ use Rattle.ms622424_blank.proofs.zk_b_reset.Tie as tie
 abbrev given : tie.Start → List ℕ → Chip
 given c m = chip (c .args .s) (c .args .queue .now) m
 
-refused-requires : tie.Need-refused-requires
-refused-requires c κs = search needs
-
 returns : tie.Need-returns
 returns c m = same-answer _ m (c .refused .ensures) ∙ reset-short _ (c .before .if1 .taken)
-
-refused-requires-2 : tie.Need-refused-requires-2
-refused-requires-2 c κs = search needs
 
 returns-2 : tie.Need-returns-2
 returns-2 c m =
@@ -29,23 +23,11 @@ returns-2 c m =
     ∙ reset-outside (given (c .before .before .before .before .before) m) (c .before .before .before .if1 .left)
     (λ g. omega arith)
 
-refused-requires-3 : tie.Need-refused-requires-3
-refused-requires-3 c κs = search needs
-
 returns-3 : tie.Need-returns-3
 returns-3 c m =
     let start = c .before .before .before .before .before .before .before in
     same-answer _ m (c .refused3 .ensures)
     ∙ reset-outside (given start m) (c .before .before .before .before .before .if1 .left) (λ g. omega arith)
-
-clear-requires : tie.Need-clear-requires
-clear-requires c κs = search needs
-
-accepted-requires : tie.Need-accepted-requires
-accepted-requires c κs = search needs
-
-same-length : tie.Need-same-length
-same-length c = search needs
 
 returns-4 : tie.Need-returns-4
 returns-4 c m =
@@ -59,13 +41,13 @@ pub zk-b-reset-spec : {M : Type 1} → statement M
 zk-b-reset-spec =
     tie.close
     (tie.spec
-    refused-requires
+    (λ c κs. search needs)
     returns
-    refused-requires-2
+    (λ c κs. search needs)
     returns-2
-    refused-requires-3
+    (λ c κs. search needs)
     returns-3
-    clear-requires
-    accepted-requires
-    same-length
+    (λ c κs. search needs)
+    (λ c κs. search needs)
+    (λ c. search needs)
     returns-4)

@@ -5,27 +5,6 @@ use borrow.Author.Needs.{needs}
 use Rattle.ms622424_pixel.proofs.entry.Statement.{statement}
 use Rattle.ms622424_pixel.proofs.entry.Tie as tie
 
-cast-result : tie.Need-cast-result
-cast-result c = search needs
-
-add-result : tie.Need-add-result
-add-result c = search needs
-
-cast-result-2 : tie.Need-cast-result-2
-cast-result-2 c = search needs
-
-add-result-2 : tie.Need-add-result-2
-add-result-2 c = search needs
-
-cast-result-3 : tie.Need-cast-result-3
-cast-result-3 c = search needs
-
-add-result-3 : tie.Need-add-result-3
-add-result-3 c = search needs
-
-cast-result-4 : tie.Need-cast-result-4
-cast-result-4 c = search needs
-
 returns : tie.Need-returns
 returns c = (omega arith, λ k e. entry-index _ _ k (c .match .keys1))
 
@@ -45,13 +24,13 @@ pub entry-spec : {M : Type 1} → statement M
 entry-spec =
     tie.close
     (tie.spec
-    cast-result
-    add-result
-    cast-result-2
-    add-result-2
-    cast-result-3
-    add-result-3
-    cast-result-4
+    (λ c. search needs)
+    (λ c. search needs)
+    (λ c. search needs)
+    (λ c. search needs)
+    (λ c. search needs)
+    (λ c. search needs)
+    (λ c. search needs)
     returns
     returns-2
     returns-3

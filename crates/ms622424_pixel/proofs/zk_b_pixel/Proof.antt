@@ -27,12 +27,6 @@ known c =
 same : (c : tie.Start) {a b : Shown} → a ≡ b → showing a (given c) ≡ showing b (given c)
 same c e = rw e refl
 
-standing-tables-requires : tie.Need-standing-tables-requires
-standing-tables-requires c κs = search needs
-
-refused-requires : tie.Need-refused-requires
-refused-requires c κs = search needs
-
 returns : tie.Need-returns
 unfolding pixel
 returns c =
@@ -44,47 +38,17 @@ returns c =
     (fails-right (below (start .args .mode) 4 ∷ below (start .args .word) (2 ^ 24) ∷ []) (ranges d))
     (c .before .before .standing-tables .ensures (d .map) refl) (c .before .if1 .taken)
 
-refused-requires-2 : tie.Need-refused-requires-2
-refused-requires-2 c κs = search needs
-
 returns-2 : tie.Need-returns-2
 returns-2 c =
     let past = c .before .before in
     same (past .before .before .before .before) (c .refused2 .ensures)
     ∙ pixel-outside _ _ _ (known past) (λ m w. omega arith)
 
-refused-requires-3 : tie.Need-refused-requires-3
-refused-requires-3 c κs = search needs
-
 returns-3 : tie.Need-returns-3
 returns-3 c =
     let past = c .before .before .before in
     same (past .before .before .before .before) (c .refused3 .ensures)
     ∙ pixel-outside _ _ _ (known past) (λ m w. omega arith)
-
-entry-requires : tie.Need-entry-requires
-entry-requires c κs = search needs
-
-mul-red : tie.Need-mul-red
-mul-red c = search needs
-
-entry-requires-2 : tie.Need-entry-requires-2
-entry-requires-2 c κs = search needs
-
-mul-green : tie.Need-mul-green
-mul-green c = search needs
-
-add-green : tie.Need-add-green
-add-green c = search needs
-
-entry-requires-3 : tie.Need-entry-requires-3
-entry-requires-3 c κs = search needs
-
-mul-blue : tie.Need-mul-blue
-mul-blue c = search needs
-
-add-blue : tie.Need-add-blue
-add-blue c = search needs
 
 shared-slice-read-t16 : tie.Need-shared-slice-read-t16
 shared-slice-read-t16 c =
@@ -126,21 +90,21 @@ pub zk-b-pixel-spec : {M : Type 1} → statement M
 zk-b-pixel-spec =
     tie.close
     (tie.spec
-    standing-tables-requires
-    refused-requires
+    (λ c κs. search needs)
+    (λ c κs. search needs)
     returns
-    refused-requires-2
+    (λ c κs. search needs)
     returns-2
-    refused-requires-3
+    (λ c κs. search needs)
     returns-3
-    entry-requires
-    mul-red
-    entry-requires-2
-    mul-green
-    add-green
-    entry-requires-3
-    mul-blue
-    add-blue
+    (λ c κs. search needs)
+    (λ c. search needs)
+    (λ c κs. search needs)
+    (λ c. search needs)
+    (λ c. search needs)
+    (λ c κs. search needs)
+    (λ c. search needs)
+    (λ c. search needs)
     shared-slice-read-t16
     shared-slice-read-t18
     shared-slice-read-t20

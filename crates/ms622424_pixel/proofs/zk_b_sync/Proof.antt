@@ -25,12 +25,6 @@ known c m =
     let t = standing-clear _ _ (sym (c .before .standing-queue .ensures m) ∙ c .if1 .left) in
     (t .0, passes-holds _ (t .1))
 
-standing-queue-requires : tie.Need-standing-queue-requires
-standing-queue-requires c κs = search needs
-
-refused-requires : tie.Need-refused-requires
-refused-requires c κs = search needs
-
 returns : tie.Need-returns
 unfolding sync
 returns c m =
@@ -41,9 +35,6 @@ returns c m =
     (fails-right (below (start .args .signals) 16 ∷ []) (ranges d)) (c .before .before .standing-queue .ensures m)
     (c .before .if1 .taken)
 
-refused-requires-2 : tie.Need-refused-requires-2
-refused-requires-2 c κs = search needs
-
 returns-2 : tie.Need-returns-2
 returns-2 c m =
     let past = c .before .before in
@@ -51,9 +42,6 @@ returns-2 c m =
 
 piped-requires : tie.Need-piped-requires
 piped-requires c κs = omega (arith, known (c .before) [])
-
-accepted-requires : tie.Need-accepted-requires
-accepted-requires c κs = search needs
 
 returns-3 : tie.Need-returns-3
 returns-3 c m =
@@ -66,11 +54,11 @@ pub zk-b-sync-spec : {M : Type 1} → statement M
 zk-b-sync-spec =
     tie.close
     (tie.spec
-    standing-queue-requires
-    refused-requires
+    (λ c κs. search needs)
+    (λ c κs. search needs)
     returns
-    refused-requires-2
+    (λ c κs. search needs)
     returns-2
     piped-requires
-    accepted-requires
+    (λ c κs. search needs)
     returns-3)

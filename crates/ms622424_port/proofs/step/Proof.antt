@@ -7,9 +7,6 @@ use borrow.Author.Needs.{needs}
 use Rattle.ms622424_port.proofs.step.Statement.{statement}
 use Rattle.ms622424_port.proofs.step.Tie as tie
 
-add-n : tie.Need-add-n
-add-n c = search needs
-
 -- what a counter's arm leaves is what its colour says
 arm : (c : tie.Start) {k : Colour} → selected (c .args .s .counter) ≡ k
     → stepped k (c .args .s) ≡ stepped (selected (c .args .s .counter)) (c .args .s)
@@ -32,4 +29,4 @@ returns-3 c =
     ap (λ (n : ℕ). port s n 0 (s .red) (s .green)) next ∙ arm (c .before .before) (is-blue _ (rest .0 .1) (rest .1))
 
 pub step-spec : {M : Type 1} → statement M
-step-spec = tie.close (tie.spec add-n returns returns-2 returns-3)
+step-spec = tie.close (tie.spec (λ c. search needs) returns returns-2 returns-3)

@@ -23,17 +23,8 @@ loop-holds c =
     let first = zeroed-first q (a .from) (a .to) (omega arith) (omega arith) in
     (search needs, search needs, refl, front-none (zeroed (a .from) (a .to) q) q (a .from) first)
 
-mul-queue : tie.Need-mul-queue Inv-loop μ-loop
-mul-queue c = search needs
-
 slice-write-queue : tie.Need-slice-write-queue Inv-loop μ-loop
 slice-write-queue c = omega arith
-
-add-i : tie.Need-add-i Inv-loop μ-loop
-add-i c = search needs
-
-loop-less : tie.Need-loop-less Inv-loop μ-loop
-loop-less c = search needs
 
 loop-again : tie.Need-loop-again Inv-loop μ-loop
 loop-again c =
@@ -68,10 +59,10 @@ clear-spec =
     Inv-loop
     μ-loop
     loop-holds
-    mul-queue
+    (λ c. search needs)
     slice-write-queue
-    add-i
-    loop-less
+    (λ c. search needs)
+    (λ c. search needs)
     loop-again
     same-length
     returns)

@@ -14,9 +14,6 @@ Inv-loop queue₀ waiting gone left i₀ queue i =
 abbrev μ-loop : tie.MeasureT-loop
 μ-loop queue₀ waiting gone left i₀ queue i = left - i
 
-sub-left : tie.Need-sub-left Inv-loop μ-loop
-sub-left c = search needs
-
 loop-holds : tie.Need-loop-holds Inv-loop μ-loop
 loop-holds c = (search needs, refl, refl)
 
@@ -69,7 +66,7 @@ move-down-spec =
     (tie.spec
     Inv-loop
     μ-loop
-    sub-left
+    (λ c. search needs)
     loop-holds
     add-queue
     mul-queue

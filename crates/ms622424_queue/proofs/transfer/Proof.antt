@@ -6,9 +6,6 @@ use borrow.Author.Needs.{needs}
 use Rattle.ms622424_queue.proofs.transfer.Statement.{statement}
 use Rattle.ms622424_queue.proofs.transfer.Tie as tie
 
-cast-waiting : tie.Need-cast-waiting
-cast-waiting c = search needs
-
 store-oldest-requires : tie.Need-store-oldest-requires
 store-oldest-requires c κs =
     let start = c .before .before .before .before .before in
@@ -17,24 +14,6 @@ store-oldest-requires c κs =
       place-below
           (chip (start .args .s) (start .args .queue .now) (start .args .map .now)) h,
     )
-
-move-down-requires : tie.Need-move-down-requires
-move-down-requires c κs = search needs
-
-sub-clear : tie.Need-sub-clear
-sub-clear c = search needs
-
-clear-requires : tie.Need-clear-requires
-clear-requires c κs = search needs
-
-cast-result : tie.Need-cast-result
-cast-result c = search needs
-
-same-length : tie.Need-same-length
-same-length c = search needs
-
-same-length-2 : tie.Need-same-length-2
-same-length-2 c = search needs
 
 returns : tie.Need-returns
 returns c =
@@ -53,12 +32,12 @@ pub transfer-spec : {M : Type 1} → statement M
 transfer-spec =
     tie.close
     (tie.spec
-    cast-waiting
+    (λ c. search needs)
     store-oldest-requires
-    move-down-requires
-    sub-clear
-    clear-requires
-    cast-result
-    same-length
-    same-length-2
+    (λ c κs. search needs)
+    (λ c. search needs)
+    (λ c κs. search needs)
+    (λ c. search needs)
+    (λ c. search needs)
+    (λ c. search needs)
     returns)

@@ -38,12 +38,6 @@ arm : (c : tie.Else1) (k : ℕ) {o : Outcome Chip} → c .before .before .before
     → o ≡ read (c .before .before .before .before .args .select) (given (c .before .before .before .before))
 arm c k = read-does _ (known c) k _
 
-standing-tables-requires : tie.Need-standing-tables-requires
-standing-tables-requires c κs = search needs
-
-refused-requires : tie.Need-refused-requires
-refused-requires c κs = search needs
-
 returns : tie.Need-returns
 unfolding read
 returns c =
@@ -53,29 +47,11 @@ returns c =
     ∙ tried-first (readRefusals (start .args .select) d) 0 d _ (shortTable d) (fails (ranges d)) _ refl (λ e. e)
     (c .before .before .standing-tables .ensures (d .map) refl) (c .before .if1 .taken)
 
-cast-accepted : tie.Need-cast-accepted
-cast-accepted c = search needs
-
-accepted-requires : tie.Need-accepted-requires
-accepted-requires c κs = search needs
-
-cast-accepted-2 : tie.Need-cast-accepted-2
-cast-accepted-2 c = search needs
-
-accepted-requires-2 : tie.Need-accepted-requires-2
-accepted-requires-2 c κs = search needs
-
-refused-requires-2 : tie.Need-refused-requires-2
-refused-requires-2 c κs = search needs
-
 returns-2 : tie.Need-returns-2
 returns-2 c =
     let past = c .before .before .before .before in
     same-answer _ _ (c .refused2 .ensures)
     ∙ read-outside-mode _ (known past) _ (c .before .before .before .match .keys3) (c .before .if2 .taken)
-
-refused-requires-3 : tie.Need-refused-requires-3
-refused-requires-3 c κs = search needs
 
 returns-3 : tie.Need-returns-3
 returns-3 c =
@@ -90,38 +66,14 @@ read-palette-requires c κs =
     let h = known (c .before .before .before .before .before) in
     (h .1, omega (arith, h), omega (arith, h))
 
-accepted-requires-3 : tie.Need-accepted-requires-3
-accepted-requires-3 c κs = search needs
-
 status-requires : tie.Need-status-requires
 status-requires c κs = omega (arith, known (c .before))
-
-accepted-requires-4 : tie.Need-accepted-requires-4
-accepted-requires-4 c κs = search needs
-
-accepted-requires-5 : tie.Need-accepted-requires-5
-accepted-requires-5 c κs = search needs
-
-accepted-requires-6 : tie.Need-accepted-requires-6
-accepted-requires-6 c κs = search needs
-
-refused-requires-4 : tie.Need-refused-requires-4
-refused-requires-4 c κs = search needs
 
 mul-accepted : tie.Need-mul-accepted
 mul-accepted c = omega (arith, known (c .before .before))
 
 add-accepted : tie.Need-add-accepted
 add-accepted c = omega (arith, known (c .before .before .before))
-
-accepted-requires-7 : tie.Need-accepted-requires-7
-accepted-requires-7 c κs = search needs
-
-accepted-requires-8 : tie.Need-accepted-requires-8
-accepted-requires-8 c κs = search needs
-
-refused-requires-5 : tie.Need-refused-requires-5
-refused-requires-5 c κs = search needs
 
 returns-4 : tie.Need-returns-4
 unfolding registerAt readable answers
@@ -205,29 +157,29 @@ pub zk-b-read-spec : {M : Type 1} → statement M
 zk-b-read-spec =
     tie.close
     (tie.spec
-    standing-tables-requires
-    refused-requires
+    (λ c κs. search needs)
+    (λ c κs. search needs)
     returns
-    cast-accepted
-    accepted-requires
-    cast-accepted-2
-    accepted-requires-2
-    refused-requires-2
+    (λ c. search needs)
+    (λ c κs. search needs)
+    (λ c. search needs)
+    (λ c κs. search needs)
+    (λ c κs. search needs)
     returns-2
-    refused-requires-3
+    (λ c κs. search needs)
     returns-3
     read-palette-requires
-    accepted-requires-3
+    (λ c κs. search needs)
     status-requires
-    accepted-requires-4
-    accepted-requires-5
-    accepted-requires-6
-    refused-requires-4
+    (λ c κs. search needs)
+    (λ c κs. search needs)
+    (λ c κs. search needs)
+    (λ c κs. search needs)
     mul-accepted
     add-accepted
-    accepted-requires-7
-    accepted-requires-8
-    refused-requires-5
+    (λ c κs. search needs)
+    (λ c κs. search needs)
+    (λ c κs. search needs)
     returns-4
     returns-5
     returns-6

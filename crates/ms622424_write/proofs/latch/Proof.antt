@@ -8,21 +8,6 @@ use borrow.Author.Needs.{needs}
 use Rattle.ms622424_write.proofs.latch.Statement.{statement}
 use Rattle.ms622424_write.proofs.latch.Tie as tie
 
-cast-last : tie.Need-cast-last
-cast-last c = search needs
-
-entry-requires : tie.Need-entry-requires
-entry-requires c κs = search needs
-
-mul-queue : tie.Need-mul-queue
-mul-queue c = search needs
-
-slice-write-queue : tie.Need-slice-write-queue
-slice-write-queue c = search needs
-
-add-n : tie.Need-add-n
-add-n c = search needs
-
 -- what a counter's arm leaves is what its colour says
 arm : (c : tie.Start) {k : Colour} → selected (c .args .s .counter) ≡ k → (m : List ℕ)
     → latched k (c .args .byte) (chip (c .args .s) (c .args .queue .now) m)
@@ -36,9 +21,6 @@ returns c m = arm (c .before .before) (is-red _ (c .match .keys1)) m
 returns-2 : tie.Need-returns-2
 unfolding latched
 returns-2 c m = arm (c .before .before) (is-green _ (c .match .keys2)) m
-
-same-length : tie.Need-same-length
-same-length c = search needs
 
 returns-3 : tie.Need-returns-3
 unfolding latched complete
@@ -54,12 +36,12 @@ pub latch-spec : {M : Type 1} → statement M
 latch-spec =
     tie.close
     (tie.spec
-    cast-last
-    entry-requires
-    mul-queue
-    slice-write-queue
-    add-n
+    (λ c. search needs)
+    (λ c κs. search needs)
+    (λ c. search needs)
+    (λ c. search needs)
+    (λ c. search needs)
     returns
     returns-2
-    same-length
+    (λ c. search needs)
     returns-3)

@@ -7,15 +7,6 @@ use borrow.Author.Needs.{needs}
 use Rattle.ms622424_write.proofs.make_room.Statement.{statement}
 use Rattle.ms622424_write.proofs.make_room.Tie as tie
 
-transfer-requires : tie.Need-transfer-requires
-transfer-requires c κs = search needs
-
-same-length : tie.Need-same-length
-same-length c = search needs
-
-same-length-2 : tie.Need-same-length-2
-same-length-2 c = search needs
-
 returns : tie.Need-returns
 returns c =
     let t = c .before .before .before .before .transfer in
@@ -30,4 +21,4 @@ returns-2 c =
     (omega arith, omega arith, same-moves (d .state) refl (omega arith) refl refl ∙ sym (room-left d (c .if1 .left)))
 
 pub make-room-spec : {M : Type 1} → statement M
-make-room-spec = tie.close (tie.spec transfer-requires same-length same-length-2 returns returns-2)
+make-room-spec = tie.close (tie.spec (λ c κs. search needs) (λ c. search needs) (λ c. search needs) returns returns-2)

@@ -8,28 +8,10 @@ use Rattle.ms622424.proofs.Write.{palette-written}
 use Rattle.ms622424_write.proofs.write_palette.Statement.{statement}
 use Rattle.ms622424_write.proofs.write_palette.Tie as tie
 
-make-room-requires : tie.Need-make-room-requires
-make-room-requires c κs = search needs
-
-sub-n : tie.Need-sub-n
-sub-n c = search needs
-
 latch-requires : tie.Need-latch-requires
 latch-requires c κs =
     let room = c .before .before .before .before .before .before in
     (room .make-room .kept .1 .0 ∙ room .before .before .before .before .before .pre .0, room .make-room .ensures .1)
-
-step-requires : tie.Need-step-requires
-step-requires c κs = search needs
-
-accepted-requires : tie.Need-accepted-requires
-accepted-requires c κs = search needs
-
-same-length : tie.Need-same-length
-same-length c = search needs
-
-same-length-2 : tie.Need-same-length-2
-same-length-2 c = search needs
 
 returns : tie.Need-returns
 returns c =
@@ -50,11 +32,11 @@ pub write-palette-spec : {M : Type 1} → statement M
 write-palette-spec =
     tie.close
     (tie.spec
-    make-room-requires
-    sub-n
+    (λ c κs. search needs)
+    (λ c. search needs)
     latch-requires
-    step-requires
-    accepted-requires
-    same-length
-    same-length-2
+    (λ c κs. search needs)
+    (λ c κs. search needs)
+    (λ c. search needs)
+    (λ c. search needs)
     returns)

@@ -37,15 +37,6 @@ arm : (c : tie.Else1) (k : ℕ) {o : Outcome Chip} → c .before .before .before
     (c .before .before .before .before .before .args .byte) (given (c .before .before .before .before .before))
 arm c k = write-does _ (search needs) _ (known c) k _
 
-standing-tables-requires : tie.Need-standing-tables-requires
-standing-tables-requires c κs = search needs
-
-refused-requires : tie.Need-refused-requires
-refused-requires c κs = search needs
-
-same-length : tie.Need-same-length
-same-length c = search needs
-
 returns : tie.Need-returns
 unfolding write
 returns c =
@@ -58,33 +49,6 @@ returns c =
     (c .before .before .standing-tables .ensures (d .map) refl)
     (c .before .if1 .taken)
 
-mul-n : tie.Need-mul-n
-mul-n c = search needs
-
-add-n : tie.Need-add-n
-add-n c = search needs
-
-accepted-requires : tie.Need-accepted-requires
-accepted-requires c κs = search needs
-
-cast-n : tie.Need-cast-n
-cast-n c = search needs
-
-mul-n-2 : tie.Need-mul-n-2
-mul-n-2 c = search needs
-
-add-n-2 : tie.Need-add-n-2
-add-n-2 c = search needs
-
-accepted-requires-2 : tie.Need-accepted-requires-2
-accepted-requires-2 c κs = search needs
-
-refused-requires-2 : tie.Need-refused-requires-2
-refused-requires-2 c κs = search needs
-
-same-length-2 : tie.Need-same-length-2
-same-length-2 c = search needs
-
 returns-2 : tie.Need-returns-2
 returns-2 c =
     let past = c .before .before .before .before in
@@ -95,38 +59,17 @@ returns-2 c =
 write-palette-requires : tie.Need-write-palette-requires
 write-palette-requires c κs = known (c .before .before .before .before .before)
 
-accepted-requires-3 : tie.Need-accepted-requires-3
-accepted-requires-3 c κs = search needs
-
-accepted-requires-4 : tie.Need-accepted-requires-4
-accepted-requires-4 c κs = search needs
-
-refused-requires-3 : tie.Need-refused-requires-3
-refused-requires-3 c κs = search needs
-
-same-length-3 : tie.Need-same-length-3
-same-length-3 c = search needs
-
 returns-3 : tie.Need-returns-3
 unfolding registerAt writable written
 returns-3 c =
     let past = c .before .before .before in
     arm past 0 (c .before .before .match .keys1) refl refl (same-answer _ _ (c .accepted .ensures))
 
-same-length-4 : tie.Need-same-length-4
-same-length-4 c = search needs
-
 returns-4 : tie.Need-returns-4
 unfolding registerAt writable written
 returns-4 c =
     let past = c .before .before .before in
     arm past 1 (c .before .before .match .keys2) refl refl (same-answer _ _ (c .accepted2 .ensures))
-
-same-length-5 : tie.Need-same-length-5
-same-length-5 c = search needs
-
-same-length-6 : tie.Need-same-length-6
-same-length-6 c = search needs
 
 returns-5 : tie.Need-returns-5
 unfolding registerAt writable
@@ -137,26 +80,17 @@ returns-5 c =
     (ne-eqb _ 1 plain)
     (c .before .before .before .before .write-palette .ensures)
 
-same-length-7 : tie.Need-same-length-7
-same-length-7 c = search needs
-
 returns-6 : tie.Need-returns-6
 unfolding registerAt writable written
 returns-6 c =
     let past = c .before .before in
     arm past 3 (c .before .match .keys4) refl refl (same-answer _ _ (c .accepted3 .ensures))
 
-same-length-8 : tie.Need-same-length-8
-same-length-8 c = search needs
-
 returns-7 : tie.Need-returns-7
 unfolding registerAt writable written
 returns-7 c =
     let past = c .before .before in
     arm past 7 (c .before .match .keys5) refl refl (same-answer _ _ (c .accepted4 .ensures))
-
-same-length-9 : tie.Need-same-length-9
-same-length-9 c = search needs
 
 returns-8 : tie.Need-returns-8
 returns-8 c =
@@ -170,34 +104,34 @@ pub zk-b-write-spec : {M : Type 1} → statement M
 zk-b-write-spec =
     tie.close
     (tie.spec
-    standing-tables-requires
-    refused-requires
-    same-length
+    (λ c κs. search needs)
+    (λ c κs. search needs)
+    (λ c. search needs)
     returns
-    mul-n
-    add-n
-    accepted-requires
-    cast-n
-    mul-n-2
-    add-n-2
-    accepted-requires-2
-    refused-requires-2
-    same-length-2
+    (λ c. search needs)
+    (λ c. search needs)
+    (λ c κs. search needs)
+    (λ c. search needs)
+    (λ c. search needs)
+    (λ c. search needs)
+    (λ c κs. search needs)
+    (λ c κs. search needs)
+    (λ c. search needs)
     returns-2
     write-palette-requires
-    accepted-requires-3
-    accepted-requires-4
-    refused-requires-3
-    same-length-3
+    (λ c κs. search needs)
+    (λ c κs. search needs)
+    (λ c κs. search needs)
+    (λ c. search needs)
     returns-3
-    same-length-4
+    (λ c. search needs)
     returns-4
-    same-length-5
-    same-length-6
+    (λ c. search needs)
+    (λ c. search needs)
     returns-5
-    same-length-7
+    (λ c. search needs)
     returns-6
-    same-length-8
+    (λ c. search needs)
     returns-7
-    same-length-9
+    (λ c. search needs)
     returns-8)

@@ -6,9 +6,6 @@ use borrow.Author.Needs.{needs}
 use Rattle.rgb640_port.proofs.prefetch.Statement.{statement}
 use Rattle.rgb640_port.proofs.prefetch.Tie as tie
 
-entry-at-requires : tie.Need-entry-at-requires
-entry-at-requires c κs = search needs
-
 returns : tie.Need-returns
 unfolding prepared
 returns c =
@@ -22,4 +19,4 @@ returns-3 : tie.Need-returns-3
 returns-3 c = sym (fetches-nothing _ _ _ (λ l h. omega arith))
 
 pub prefetch-spec : {M : Type 1} → statement M
-prefetch-spec = tie.close (tie.spec entry-at-requires returns returns-2 returns-3)
+prefetch-spec = tie.close (tie.spec (λ c κs. search needs) returns returns-2 returns-3)

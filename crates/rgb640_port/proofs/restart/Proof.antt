@@ -10,21 +10,17 @@ returns : tie.Need-returns
 unfolding restarted
 returns c = sym (picks-second _ _ (ne-eqb _ _ (c .if1 .taken)))
 
-sub-n : tie.Need-sub-n
-sub-n c = search needs
-
-add-n : tie.Need-add-n
-add-n c = search needs
-
-add-n-2 : tie.Need-add-n-2
-add-n-2 c = search needs
-
-prefetch-requires : tie.Need-prefetch-requires
-prefetch-requires c κs = search needs
-
 returns-2 : tie.Need-returns-2
 unfolding restarted
 returns-2 c = c .prefetch .ensures ∙ sym (picks-first _ _ (eq-eqb _ _ (c .before .if1 .left)))
 
 pub restart-spec : {M : Type 1} → statement M
-restart-spec = tie.close (tie.spec returns sub-n add-n add-n-2 prefetch-requires returns-2)
+restart-spec =
+    tie.close
+    (tie.spec
+    returns
+    (λ c. search needs)
+    (λ c. search needs)
+    (λ c. search needs)
+    (λ c κs. search needs)
+    returns-2)

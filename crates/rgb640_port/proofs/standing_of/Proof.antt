@@ -12,9 +12,6 @@ use Rattle.rgb640_port.proofs.standing_of.Tie as tie
 returns : tie.Need-returns
 returns c = sym (refusal-is (standing _ _) [] lentLength _ refl tt (not-fails (whole _) (λ g. c .if1 .taken (g .0))))
 
-good-requires : tie.Need-good-requires
-good-requires c κs = search needs
-
 returns-2 : tie.Need-returns-2
 returns-2 c =
     sym (refusal-is (standing _ _) (lentLength ∷ []) outOfRange _ refl
@@ -29,4 +26,4 @@ returns-3 c =
     ))
 
 pub standing-of-spec : {M : Type 1} → statement M
-standing-of-spec = tie.close (tie.spec returns good-requires returns-2 returns-3)
+standing-of-spec = tie.close (tie.spec returns (λ c κs. search needs) returns-2 returns-3)

@@ -8,14 +8,8 @@ use borrow.Author.Needs.{needs}
 use Rattle.rgb640_read.proofs.data_read.Statement.{statement}
 use Rattle.rgb640_read.proofs.data_read.Tie as tie
 
-accepted-requires : tie.Need-accepted-requires
-accepted-requires c κs = search needs
-
 palette-read-requires : tie.Need-palette-read-requires
 palette-read-requires c κs = stands-holds _ _ (c .before .before .before .before .pre)
-
-refused-requires : tie.Need-refused-requires
-refused-requires c κs = search needs
 
 returns : tie.Need-returns
 unfolding served dataRead
@@ -42,4 +36,4 @@ returns-3 c =
 pub data-read-spec : {M : Type 1} → statement M
 data-read-spec =
     tie.close
-    (tie.spec accepted-requires palette-read-requires refused-requires returns returns-2 returns-3)
+    (tie.spec (λ c κs. search needs) palette-read-requires (λ c κs. search needs) returns returns-2 returns-3)

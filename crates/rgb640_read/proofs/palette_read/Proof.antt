@@ -6,27 +6,6 @@ use borrow.Author.Needs.{needs}
 use Rattle.rgb640_read.proofs.palette_read.Statement.{statement}
 use Rattle.rgb640_read.proofs.palette_read.Tie as tie
 
-cast-accepted : tie.Need-cast-accepted
-cast-accepted c = search needs
-
-accepted-requires : tie.Need-accepted-requires
-accepted-requires c κs = search needs
-
-cast-accepted-2 : tie.Need-cast-accepted-2
-cast-accepted-2 c = search needs
-
-accepted-requires-2 : tie.Need-accepted-requires-2
-accepted-requires-2 c κs = search needs
-
-cast-accepted-3 : tie.Need-cast-accepted-3
-cast-accepted-3 c = search needs
-
-restart-requires : tie.Need-restart-requires
-restart-requires c κs = search needs
-
-accepted-requires-3 : tie.Need-accepted-requires-3
-accepted-requires-3 c κs = search needs
-
 returns : tie.Need-returns
 unfolding dataRead moved
 returns c = leaves (c .accepted .ensures) refl ∙ rw (is-red _ (c .before .before .match .keys1))
@@ -46,13 +25,13 @@ pub palette-read-spec : {M : Type 1} → statement M
 palette-read-spec =
     tie.close
     (tie.spec
-    cast-accepted
-    accepted-requires
-    cast-accepted-2
-    accepted-requires-2
-    cast-accepted-3
-    restart-requires
-    accepted-requires-3
+    (λ c. search needs)
+    (λ c κs. search needs)
+    (λ c. search needs)
+    (λ c κs. search needs)
+    (λ c. search needs)
+    (λ c κs. search needs)
+    (λ c κs. search needs)
     returns
     returns-2
     returns-3)

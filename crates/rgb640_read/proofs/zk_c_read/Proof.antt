@@ -12,35 +12,11 @@ stands : (c : tie.Else1)
     → standingOf (length (c .before .before .before .args .table .now)) (c .before .before .before .args .s) ≡ 0
 stands c = sym (c .before .standing-of .ensures) ∙ c .if1 .left
 
-standing-of-requires : tie.Need-standing-of-requires
-standing-of-requires c κs = search needs
-
-refused-requires : tie.Need-refused-requires
-refused-requires c κs = search needs
-
 returns : tie.Need-returns
 unfolding read
 returns c =
     leaves (c .refused .ensures) refl
     ∙ stops _ _ (chip _ _) _ (c .before .before .standing-of .ensures) (c .before .if1 .taken)
-
-cast-accepted : tie.Need-cast-accepted
-cast-accepted c = search needs
-
-accepted-requires : tie.Need-accepted-requires
-accepted-requires c κs = search needs
-
-cast-accepted-2 : tie.Need-cast-accepted-2
-cast-accepted-2 c = search needs
-
-accepted-requires-2 : tie.Need-accepted-requires-2
-accepted-requires-2 c κs = search needs
-
-data-read-requires : tie.Need-data-read-requires
-data-read-requires c κs = search needs
-
-refused-requires-2 : tie.Need-refused-requires-2
-refused-requires-2 c κs = search needs
 
 returns-2 : tie.Need-returns-2
 unfolding portOf readOut
@@ -68,15 +44,15 @@ pub zk-c-read-spec : {M : Type 1} → statement M
 zk-c-read-spec =
     tie.close
     (tie.spec
-    standing-of-requires
-    refused-requires
+    (λ c κs. search needs)
+    (λ c κs. search needs)
     returns
-    cast-accepted
-    accepted-requires
-    cast-accepted-2
-    accepted-requires-2
-    data-read-requires
-    refused-requires-2
+    (λ c. search needs)
+    (λ c κs. search needs)
+    (λ c. search needs)
+    (λ c κs. search needs)
+    (λ c κs. search needs)
+    (λ c κs. search needs)
     returns-2
     returns-3
     returns-4

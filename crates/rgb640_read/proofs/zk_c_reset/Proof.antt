@@ -8,12 +8,9 @@ use borrow.Author.Needs.{needs}
 use Rattle.rgb640_read.proofs.zk_c_reset.Statement.{statement}
 use Rattle.rgb640_read.proofs.zk_c_reset.Tie as tie
 
-accepted-requires : tie.Need-accepted-requires
-accepted-requires c κs = search needs
-
 returns : tie.Need-returns
 unfolding reset
 returns c t = leaves (c .accepted .ensures) refl ∙ sym (accepted-does 0 _ _ (refusal-none [] tt))
 
 pub zk-c-reset-spec : {M : Type 1} → statement M
-zk-c-reset-spec = tie.close (tie.spec accepted-requires returns)
+zk-c-reset-spec = tie.close (tie.spec (λ c κs. search needs) returns)

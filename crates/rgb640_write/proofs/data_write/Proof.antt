@@ -9,17 +9,8 @@ use borrow.Author.Needs.{needs}
 use Rattle.rgb640_write.proofs.data_write.Statement.{statement}
 use Rattle.rgb640_write.proofs.data_write.Tie as tie
 
-accepted-requires : tie.Need-accepted-requires
-accepted-requires c κs = search needs
-
 palette-write-requires : tie.Need-palette-write-requires
 palette-write-requires c κs = stands-holds _ _ (c .before .before .before .before .before .pre)
-
-accepted-requires-2 : tie.Need-accepted-requires-2
-accepted-requires-2 c κs = search needs
-
-refused-requires : tie.Need-refused-requires
-refused-requires c κs = search needs
 
 returns : tie.Need-returns
 unfolding served dataWritten
@@ -27,9 +18,6 @@ returns c =
     leaves (c .accepted .ensures) refl
     ∙ write-data (chip _ _) (c .before .before .before .pre) updateControl
     (space-update _ (c .before .match .keys1)) refl _
-
-same-length : tie.Need-same-length
-same-length c = search needs
 
 returns-2 : tie.Need-returns-2
 unfolding served dataWritten
@@ -51,11 +39,11 @@ pub data-write-spec : {M : Type 1} → statement M
 data-write-spec =
     tie.close
     (tie.spec
-    accepted-requires
+    (λ c κs. search needs)
     palette-write-requires
-    accepted-requires-2
-    refused-requires
+    (λ c κs. search needs)
+    (λ c κs. search needs)
     returns
-    same-length
+    (λ c. search needs)
     returns-2
     returns-3)

@@ -5,15 +5,6 @@ use borrow.Author.Needs.{needs}
 use Rattle.rgb640_write.proofs.palette_write.Statement.{statement}
 use Rattle.rgb640_write.proofs.palette_write.Tie as tie
 
-eight-requires : tie.Need-eight-requires
-eight-requires c κs = search needs
-
-store-requires : tie.Need-store-requires
-store-requires c κs = search needs
-
-restart-requires : tie.Need-restart-requires
-restart-requires c κs = search needs
-
 returns : tie.Need-returns
 unfolding dataWritten paletteWritten taken moved
 returns c = rw (is-red _ (c .match .keys1), c .before .eight .ensures)
@@ -21,9 +12,6 @@ returns c = rw (is-red _ (c .match .keys1), c .before .eight .ensures)
 returns-2 : tie.Need-returns-2
 unfolding dataWritten paletteWritten taken moved
 returns-2 c = rw (is-green _ (c .match .keys2), c .before .eight .ensures)
-
-same-length : tie.Need-same-length
-same-length c = search needs
 
 returns-3 : tie.Need-returns-3
 unfolding dataWritten
@@ -37,10 +25,10 @@ pub palette-write-spec : {M : Type 1} → statement M
 palette-write-spec =
     tie.close
     (tie.spec
-    eight-requires
-    store-requires
-    restart-requires
+    (λ c κs. search needs)
+    (λ c κs. search needs)
+    (λ c κs. search needs)
     returns
     returns-2
-    same-length
+    (λ c. search needs)
     returns-3)

@@ -6,38 +6,11 @@ use borrow.Author.Needs.{needs}
 use Rattle.rgb640_write.proofs.store.Statement.{statement}
 use Rattle.rgb640_write.proofs.store.Tie as tie
 
-cast-at : tie.Need-cast-at
-cast-at c = search needs
-
-mul-at : tie.Need-mul-at
-mul-at c = search needs
-
-mul-table : tie.Need-mul-table
-mul-table c = search needs
-
-slice-write-table : tie.Need-slice-write-table
-slice-write-table c = search needs
-
-add-table : tie.Need-add-table
-add-table c = search needs
-
-mul-table-2 : tie.Need-mul-table-2
-mul-table-2 c = search needs
-
 slice-write-table-2 : tie.Need-slice-write-table-2
 slice-write-table-2 c = simp length-set (omega arith)
 
-add-table-2 : tie.Need-add-table-2
-add-table-2 c = search needs
-
-mul-table-3 : tie.Need-mul-table-3
-mul-table-3 c = search needs
-
 slice-write-table-3 : tie.Need-slice-write-table-3
 slice-write-table-3 c = simp length-set (omega arith)
-
-same-length : tie.Need-same-length
-same-length c = search needs
 
 returns : tie.Need-returns
 unfolding put
@@ -47,15 +20,15 @@ pub store-spec : {M : Type 1} → statement M
 store-spec =
     tie.close
     (tie.spec
-    cast-at
-    mul-at
-    mul-table
-    slice-write-table
-    add-table
-    mul-table-2
+    (λ c. search needs)
+    (λ c. search needs)
+    (λ c. search needs)
+    (λ c. search needs)
+    (λ c. search needs)
+    (λ c. search needs)
     slice-write-table-2
-    add-table-2
-    mul-table-3
+    (λ c. search needs)
+    (λ c. search needs)
     slice-write-table-3
-    same-length
+    (λ c. search needs)
     returns)

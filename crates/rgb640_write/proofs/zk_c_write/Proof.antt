@@ -12,44 +12,14 @@ stands : (c : tie.Else1)
     → standingOf (length (c .before .before .before .args .table .now)) (c .before .before .before .args .s) ≡ 0
 stands c = sym (c .before .standing-of .ensures) ∙ c .if1 .left
 
-standing-of-requires : tie.Need-standing-of-requires
-standing-of-requires c κs = search needs
-
-refused-requires : tie.Need-refused-requires
-refused-requires c κs = search needs
-
 returns : tie.Need-returns
 unfolding write
 returns c =
     leaves (c .refused .ensures) refl
     ∙ stops _ _ (chip _ _) _ (c .before .before .standing-of .ensures) (c .before .if1 .taken)
 
-mul-n : tie.Need-mul-n
-mul-n c = search needs
-
-add-n : tie.Need-add-n
-add-n c = search needs
-
-accepted-requires : tie.Need-accepted-requires
-accepted-requires c κs = search needs
-
-mul-n-2 : tie.Need-mul-n-2
-mul-n-2 c = search needs
-
-add-n-2 : tie.Need-add-n-2
-add-n-2 c = search needs
-
 prefetch-requires : tie.Need-prefetch-requires
 prefetch-requires c κs = stands-holds _ _ (stands (c .before .before)) .0
-
-accepted-requires-2 : tie.Need-accepted-requires-2
-accepted-requires-2 c κs = search needs
-
-data-write-requires : tie.Need-data-write-requires
-data-write-requires c κs = search needs
-
-refused-requires-2 : tie.Need-refused-requires-2
-refused-requires-2 c κs = search needs
 
 returns-2 : tie.Need-returns-2
 unfolding portOf written
@@ -58,18 +28,12 @@ returns-2 c =
     (leaves (c .accepted .ensures) refl
     ∙ write-index (chip _ _) (stands (c .before .before)) 4 (omega arith) (omega arith) _)
 
-same-length : tie.Need-same-length
-same-length c = search needs
-
 returns-3 : tie.Need-returns-3
 unfolding portOf written
 returns-3 c =
     rw (c .before .before .before .match .keys2)
     (leaves (c .accepted2 .ensures ∙ ap (accept 0) (c .before .prefetch .ensures)) refl
     ∙ write-index (chip _ _) (stands (c .before .before .before .before)) 5 (omega arith) (omega arith) _)
-
-same-length-2 : tie.Need-same-length-2
-same-length-2 c = search needs
 
 returns-4 : tie.Need-returns-4
 returns-4 c = rw (c .before .before .before .before .match .keys3) (c .before .before .data-write .ensures)
@@ -84,21 +48,21 @@ pub zk-c-write-spec : {M : Type 1} → statement M
 zk-c-write-spec =
     tie.close
     (tie.spec
-    standing-of-requires
-    refused-requires
+    (λ c κs. search needs)
+    (λ c κs. search needs)
     returns
-    mul-n
-    add-n
-    accepted-requires
-    mul-n-2
-    add-n-2
+    (λ c. search needs)
+    (λ c. search needs)
+    (λ c κs. search needs)
+    (λ c. search needs)
+    (λ c. search needs)
     prefetch-requires
-    accepted-requires-2
-    data-write-requires
-    refused-requires-2
+    (λ c κs. search needs)
+    (λ c κs. search needs)
+    (λ c κs. search needs)
     returns-2
-    same-length
+    (λ c. search needs)
     returns-3
-    same-length-2
+    (λ c. search needs)
     returns-4
     returns-5)

@@ -7,15 +7,9 @@ use borrow.Author.Needs.{needs}
 use Rattle.sheet.proofs.digit.Statement.{statement}
 use Rattle.sheet.proofs.digit.Tie as tie
 
-cast-result : tie.Need-cast-result
-cast-result c = search needs
-
-element-copy-out-result : tie.Need-element-copy-out-result
-element-copy-out-result c = search needs
-
 returns : tie.Need-returns
 unfolding hexDigit pick
 returns c = table-rule hexDigit 16 (c .before .before .args .x % 16) (omega arith)
 
 pub digit-spec : {M : Type 1} → statement M
-digit-spec = tie.close (tie.spec cast-result element-copy-out-result returns)
+digit-spec = tie.close (tie.spec (λ c. search needs) (λ c. search needs) returns)

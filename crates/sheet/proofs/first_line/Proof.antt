@@ -4,12 +4,6 @@ use borrow.Author.Needs.{needs}
 use Rattle.sheet.proofs.first_line.Statement.{statement}
 use Rattle.sheet.proofs.first_line.Tie as tie
 
-digit-requires : tie.Need-digit-requires
-digit-requires c κs = search needs
-
-digit-requires-2 : tie.Need-digit-requires-2
-digit-requires-2 c κs = search needs
-
 returns : tie.Need-returns
 returns c =
     (search needs, text-chip (c .before .before .before .args .k) (c .before .before .before .args .v) (search needs))
@@ -45,4 +39,4 @@ returns-5 c = (
 pub first-line-spec : {M : Type 1} → statement M
 first-line-spec =
     tie.close
-    (tie.spec digit-requires digit-requires-2 returns returns-2 returns-3 returns-4 returns-5)
+    (tie.spec (λ c κs. search needs) (λ c κs. search needs) returns returns-2 returns-3 returns-4 returns-5)

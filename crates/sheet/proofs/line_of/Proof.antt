@@ -7,26 +7,8 @@ use borrow.Author.Needs.{needs}
 use Rattle.sheet.proofs.line_of.Statement.{statement}
 use Rattle.sheet.proofs.line_of.Tie as tie
 
-front-len-requires : tie.Need-front-len-requires
-front-len-requires c κs = search needs
-
-digit-count-requires : tie.Need-digit-count-requires
-digit-count-requires c κs = search needs
-
-spelt-at-requires : tie.Need-spelt-at-requires
-spelt-at-requires c κs = search needs
-
-written-requires : tie.Need-written-requires
-written-requires c κs = search needs
-
-array-share-prefix-bytes : tie.Need-array-share-prefix-bytes
-array-share-prefix-bytes c = search needs
-
 slice-aggregate-begins : tie.Need-slice-aggregate-begins
 slice-aggregate-begins c = sym (length-take-le _ _ (c .before .before .written .ensures .0))
-
-begins-requires : tie.Need-begins-requires
-begins-requires c κs = search needs
 
 returns : tie.Need-returns
 returns c =
@@ -37,9 +19,6 @@ returns c =
     (c .before .before .before .before .before .before .before .front-len .ensures .0))
     (c .before .before .before .before .written .ensures .1)
     (sym (c .before .begins .ensures) ∙ not-true _ (c .if1 .taken))
-
-takes-requires : tie.Need-takes-requires
-takes-requires c κs = search needs
 
 returns-2 : tie.Need-returns-2
 returns-2 c =
@@ -67,14 +46,14 @@ pub line-of-spec : {M : Type 1} → statement M
 line-of-spec =
     tie.close
     (tie.spec
-    front-len-requires
-    digit-count-requires
-    spelt-at-requires
-    written-requires
-    array-share-prefix-bytes
+    (λ c κs. search needs)
+    (λ c κs. search needs)
+    (λ c κs. search needs)
+    (λ c κs. search needs)
+    (λ c. search needs)
     slice-aggregate-begins
-    begins-requires
+    (λ c κs. search needs)
     returns
-    takes-requires
+    (λ c κs. search needs)
     returns-2
     returns-3)

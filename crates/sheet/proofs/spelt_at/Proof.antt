@@ -6,12 +6,6 @@ use borrow.Author.Needs.{needs}
 use Rattle.sheet.proofs.spelt_at.Statement.{statement}
 use Rattle.sheet.proofs.spelt_at.Tie as tie
 
-byte-requires : tie.Need-byte-requires
-byte-requires c κs = search needs
-
-nibble-requires : tie.Need-nibble-requires
-nibble-requires c κs = search needs
-
 returns : tie.Need-returns
 returns c =
     spelt-none (c .before .before .before .before .args .t .now) (c .before .before .before .before .args .i)
@@ -23,21 +17,6 @@ returns-2 c =
     (c .before .before .before .before .before .args .i)
     (c .before .before .nibble .ensures .0 ∙ ap hexValue (c .before .before .before .byte .ensures)) (c .if2 .taken)
 
-add-byte : tie.Need-add-byte
-add-byte c = search needs
-
-byte-requires-2 : tie.Need-byte-requires-2
-byte-requires-2 c κs = search needs
-
-nibble-requires-2 : tie.Need-nibble-requires-2
-nibble-requires-2 c κs = search needs
-
-mul-result : tie.Need-mul-result
-mul-result c = search needs
-
-add-result : tie.Need-add-result
-add-result c = search needs
-
 returns-3 : tie.Need-returns-3
 returns-3 c =
     spelt-two (c .before .before .before .before .before .before .before .before .args .t .now)
@@ -45,27 +24,6 @@ returns-3 c =
     (c .before .before .before .before .before .nibble .ensures .0 ∙ ap hexValue
     (c .before .before .before .before .before .before .byte .ensures))
     (c .before .nibble2 .ensures .0 ∙ ap hexValue (c .before .before .byte2 .ensures)) (c .if3 .taken)
-
-add-byte-2 : tie.Need-add-byte-2
-add-byte-2 c = search needs
-
-byte-requires-3 : tie.Need-byte-requires-3
-byte-requires-3 c κs = search needs
-
-nibble-requires-3 : tie.Need-nibble-requires-3
-nibble-requires-3 c κs = search needs
-
-mul-result-2 : tie.Need-mul-result-2
-mul-result-2 c = search needs
-
-add-result-2 : tie.Need-add-result-2
-add-result-2 c = search needs
-
-mul-result-3 : tie.Need-mul-result-3
-mul-result-3 c = search needs
-
-add-result-3 : tie.Need-add-result-3
-add-result-3 c = search needs
 
 returns-4 : tie.Need-returns-4
 returns-4 c =
@@ -81,21 +39,21 @@ pub spelt-at-spec : {M : Type 1} → statement M
 spelt-at-spec =
     tie.close
     (tie.spec
-    byte-requires
-    nibble-requires
+    (λ c κs. search needs)
+    (λ c κs. search needs)
     returns
     returns-2
-    add-byte
-    byte-requires-2
-    nibble-requires-2
-    mul-result
-    add-result
+    (λ c. search needs)
+    (λ c κs. search needs)
+    (λ c κs. search needs)
+    (λ c. search needs)
+    (λ c. search needs)
     returns-3
-    add-byte-2
-    byte-requires-3
-    nibble-requires-3
-    mul-result-2
-    add-result-2
-    mul-result-3
-    add-result-3
+    (λ c. search needs)
+    (λ c κs. search needs)
+    (λ c κs. search needs)
+    (λ c. search needs)
+    (λ c. search needs)
+    (λ c. search needs)
+    (λ c. search needs)
     returns-4)

@@ -3,24 +3,15 @@ use borrow.Author.Needs.{needs}
 use Rattle.sheet_calls.proofs.sheet_calls.Statement.{statement}
 use Rattle.sheet_calls.proofs.sheet_calls.Tie as tie
 
-read-requires : tie.Need-read-requires
-read-requires c κs = search needs
-
 returns : tie.Need-returns
 returns c =
     refused-bad (c .before .before .before .before .args .text .now) (c .before .before .before .before .args .out .now)
     _ _ (c .before .read .ensures) (c .if1 .taken)
 
-slice-aggregate-count-of : tie.Need-slice-aggregate-count-of
-slice-aggregate-count-of c = search needs
-
 count-of-requires : tie.Need-count-of-requires
 count-of-requires c κs =
     good-kept (c .before .before .before .before .before .before .args .text .now) _
     (is-good _ _ _ (c .before .before .before .read .ensures) (c .before .before .if1 .left))
-
-mul-if2 : tie.Need-mul-if2
-mul-if2 c = search needs
 
 returns-2 : tie.Need-returns-2
 returns-2 c =
@@ -29,9 +20,6 @@ returns-2 c =
     refused-short (a .text .now) (a .out .now) (r .result .kept)
     (is-good _ _ _ (r .ensures) (c .before .before .before .before .if1 .left))
     (c .before .count-of .ensures .0) (c .if2 .taken)
-
-slice-aggregate-write-calls : tie.Need-slice-aggregate-write-calls
-slice-aggregate-write-calls c = search needs
 
 write-calls-requires : tie.Need-write-calls-requires
 write-calls-requires c κs =
@@ -42,12 +30,6 @@ write-calls-requires c κs =
       calls-fit (a .text .now) (a .out .now) (r .result .kept) g (c .before .before .before .count-of .ensures .0)
           (c .before .before .if2 .left),
     )
-
-cast-t17 : tie.Need-cast-t17
-cast-t17 c = search needs
-
-same-length : tie.Need-same-length
-same-length c = search needs
 
 returns-3 : tie.Need-returns-3
 returns-3 c =
@@ -63,14 +45,14 @@ pub sheet-calls-spec : {M : Type 1} → statement M
 sheet-calls-spec =
     tie.close
     (tie.spec
-    read-requires
+    (λ c κs. search needs)
     returns
-    slice-aggregate-count-of
+    (λ c. search needs)
     count-of-requires
-    mul-if2
+    (λ c. search needs)
     returns-2
-    slice-aggregate-write-calls
+    (λ c. search needs)
     write-calls-requires
-    cast-t17
-    same-length
+    (λ c. search needs)
+    (λ c. search needs)
     returns-3)

@@ -8,39 +8,12 @@ use Rattle.sheet_reader.proofs.key_of.Tie as tie
 returns : tie.Need-returns
 returns c = sym (named-first (c .before .before .args .t .now) (c .before .before .args .due) (c .if1 .taken))
 
-byte-requires : tie.Need-byte-requires
-byte-requires c κs = search needs
-
-byte-requires-2 : tie.Need-byte-requires-2
-byte-requires-2 c κs = search needs
-
-nibble-requires : tie.Need-nibble-requires
-nibble-requires c κs = search needs
-
-add-result : tie.Need-add-result
-add-result c = search needs
-
 returns-2 : tie.Need-returns-2
 returns-2 c =
     names-overlay (c .before .before .before .before .before .before .args .t .now)
     (c .before .before .before .before .before .before .args .due) (c .before .before .before .before .if1 .left)
     (c .before .before .before .byte .ensures) (c .if2 .taken)
     (c .before .nibble .ensures .0 ∙ ap hexValue (c .before .before .byte2 .ensures))
-
-byte-requires-3 : tie.Need-byte-requires-3
-byte-requires-3 c κs = search needs
-
-nibble-requires-2 : tie.Need-nibble-requires-2
-nibble-requires-2 c κs = search needs
-
-mul-result : tie.Need-mul-result
-mul-result c = search needs
-
-add-result-2 : tie.Need-add-result-2
-add-result-2 c = search needs
-
-add-result-3 : tie.Need-add-result-3
-add-result-3 c = search needs
 
 returns-3 : tie.Need-returns-3
 returns-3 c =
@@ -64,15 +37,15 @@ key-of-spec =
     tie.close
     (tie.spec
     returns
-    byte-requires
-    byte-requires-2
-    nibble-requires
-    add-result
+    (λ c κs. search needs)
+    (λ c κs. search needs)
+    (λ c κs. search needs)
+    (λ c. search needs)
     returns-2
-    byte-requires-3
-    nibble-requires-2
-    mul-result
-    add-result-2
-    add-result-3
+    (λ c κs. search needs)
+    (λ c κs. search needs)
+    (λ c. search needs)
+    (λ c. search needs)
+    (λ c. search needs)
     returns-3
     returns-4)

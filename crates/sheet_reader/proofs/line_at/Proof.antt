@@ -4,18 +4,6 @@ use borrow.Author.Needs.{needs}
 use Rattle.sheet_reader.proofs.line_at.Statement.{statement}
 use Rattle.sheet_reader.proofs.line_at.Tie as tie
 
-sub-key-of : tie.Need-sub-key-of
-sub-key-of c = search needs
-
-part-key-of-start : tie.Need-part-key-of-start
-part-key-of-start c = search needs
-
-part-key-of-end : tie.Need-part-key-of-end
-part-key-of-end c = search needs
-
-key-of-requires : tie.Need-key-of-requires
-key-of-requires c κs = search needs
-
 returns : tie.Need-returns
 returns c =
     let a = c .before .before .before .before .args in
@@ -30,36 +18,12 @@ returns-2 c =
     (search needs) (search needs)
     (c .if2 .taken)
 
-sub-line-of : tie.Need-sub-line-of
-sub-line-of c = search needs
-
-part-line-of-start : tie.Need-part-line-of-start
-part-line-of-start c = search needs
-
-part-line-of-end : tie.Need-part-line-of-end
-part-line-of-end c = search needs
-
-line-of-requires : tie.Need-line-of-requires
-line-of-requires c κs = search needs
-
-enum-known-v : tie.Need-enum-known-v
-enum-known-v c = search needs
-
-enum-told : tie.Need-enum-told
-enum-told c = search needs
-
 returns-3 : tie.Need-returns-3
 returns-3 c =
     let a = c .before .before .before .before .before .before .before .before .before .args in
     wrong (a .text .now) (a .at) (a .due) (rest-of (a .text .now) (a .at))
     (c .before .before .before .before .before .before .key-of .ensures) (search needs) (search needs)
     (sym (c .before .before .line-of .ensures) ∙ c .enum-told .given .1)
-
-line-len-requires : tie.Need-line-len-requires
-line-len-requires c κs = search needs
-
-add-t15 : tie.Need-add-t15
-add-t15 c = search needs
 
 returns-4 : tie.Need-returns-4
 returns-4 c =
@@ -75,19 +39,19 @@ pub line-at-spec : {M : Type 1} → statement M
 line-at-spec =
     tie.close
     (tie.spec
-    sub-key-of
-    part-key-of-start
-    part-key-of-end
-    key-of-requires
+    (λ c. search needs)
+    (λ c. search needs)
+    (λ c. search needs)
+    (λ c κs. search needs)
     returns
     returns-2
-    sub-line-of
-    part-line-of-start
-    part-line-of-end
-    line-of-requires
-    enum-known-v
-    enum-told
+    (λ c. search needs)
+    (λ c. search needs)
+    (λ c. search needs)
+    (λ c κs. search needs)
+    (λ c. search needs)
+    (λ c. search needs)
     returns-3
-    line-len-requires
-    add-t15
+    (λ c κs. search needs)
+    (λ c. search needs)
     returns-4)

@@ -30,15 +30,6 @@ loop-holds : tie.Need-loop-holds Inv-loop μ-loop
 unfolding leads
 loop-holds c = (search needs, search needs, search needs, search needs, record { long = refl; rest = refl }, refl)
 
-line-at-requires : tie.Need-line-at-requires Inv-loop μ-loop
-line-at-requires c κs = search needs
-
-enum-known-k : tie.Need-enum-known-k Inv-loop μ-loop
-enum-known-k c = search needs
-
-enum-told : tie.Need-enum-told Inv-loop μ-loop
-enum-told c = search needs
-
 returns : tie.Need-returns Inv-loop μ-loop
 unfolding onFrom
 returns c =
@@ -46,20 +37,11 @@ returns c =
     is-bad (take (l .due) (l .kept)) _ (l .n) _ _ (l .inv .2)
     ((rw (c .enum-told .given .1) at (c .before .before .line-at .ensures)) .1 (l .n)) (l .inv .5)
 
-cast-kept : tie.Need-cast-kept Inv-loop μ-loop
-cast-kept c = search needs
-
-mul-kept : tie.Need-mul-kept Inv-loop μ-loop
-mul-kept c = search needs
-
 array-write-kept : tie.Need-array-write-kept Inv-loop μ-loop
 array-write-kept c = let r = right c .0 in omega (arith, c .before .before .before .before .before .loop .inv .4 .long)
 
 add-due : tie.Need-add-due Inv-loop μ-loop
 add-due c = let r = right c .0 in omega arith
-
-add-n : tie.Need-add-n Inv-loop μ-loop
-add-n c = search needs
 
 loop-less : tie.Need-loop-less Inv-loop μ-loop
 loop-less c = let r = right c .0 in omega arith
@@ -97,15 +79,15 @@ read-spec =
     Inv-loop
     μ-loop
     loop-holds
-    line-at-requires
-    enum-known-k
-    enum-told
+    (λ c κs. search needs)
+    (λ c. search needs)
+    (λ c. search needs)
     returns
-    cast-kept
-    mul-kept
+    (λ c. search needs)
+    (λ c. search needs)
     array-write-kept
     add-due
-    add-n
+    (λ c. search needs)
     loop-less
     loop-again
     returns-2

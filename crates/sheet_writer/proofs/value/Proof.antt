@@ -6,30 +6,9 @@ use borrow.Author.Needs.{needs}
 use Rattle.sheet_writer.proofs.value.Statement.{statement}
 use Rattle.sheet_writer.proofs.value.Tie as tie
 
-wide-requires : tie.Need-wide-requires
-wide-requires c κs = search needs
-
-wide-requires-2 : tie.Need-wide-requires-2
-wide-requires-2 c κs = search needs
-
-wide-requires-3 : tie.Need-wide-requires-3
-wide-requires-3 c κs = search needs
-
-wide-requires-4 : tie.Need-wide-requires-4
-wide-requires-4 c κs = search needs
-
-sub-colour : tie.Need-sub-colour
-sub-colour c = search needs
-
-cast-colour : tie.Need-cast-colour
-cast-colour c = search needs
-
 colour-requires : tie.Need-colour-requires
 colour-requires c κs =
     let w = c .before .before .before .before .before .pre .1 in (omega (arith, w .overlays), w .low-overlays)
-
-cast-colour-2 : tie.Need-cast-colour-2
-cast-colour-2 c = search needs
 
 colour-requires-2 : tie.Need-colour-requires-2
 colour-requires-2 c κs =
@@ -73,14 +52,14 @@ pub value-spec : {M : Type 1} → statement M
 value-spec =
     tie.close
     (tie.spec
-    wide-requires
-    wide-requires-2
-    wide-requires-3
-    wide-requires-4
-    sub-colour
-    cast-colour
+    (λ c κs. search needs)
+    (λ c κs. search needs)
+    (λ c κs. search needs)
+    (λ c κs. search needs)
+    (λ c. search needs)
+    (λ c. search needs)
     colour-requires
-    cast-colour-2
+    (λ c. search needs)
     colour-requires-2
     returns
     returns-2

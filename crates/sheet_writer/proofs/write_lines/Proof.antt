@@ -35,12 +35,6 @@ put-line-requires c κs =
     line-fits (values (chip (g .s) (g .colours .now) (g .overlays .now))) _ _ (c .before .value .ensures) (omega arith)
     (c .before .before .before .loop .inv .1)
 
-add-k : tie.Need-add-k Inv-loop μ-loop
-add-k c = search needs
-
-loop-less : tie.Need-loop-less Inv-loop μ-loop
-loop-less c = search needs
-
 loop-again : tie.Need-loop-again Inv-loop μ-loop
 loop-again c =
     let g = c .before .before .before .before .before .before .before .before .before .before .args in
@@ -53,9 +47,6 @@ loop-again c =
           (c .before .before .before .before .value .ensures) (omega arith))
           (c .before .before .put-line .ensures),
     )
-
-same-length : tie.Need-same-length Inv-loop μ-loop
-same-length c = search needs
 
 returns : tie.Need-returns Inv-loop μ-loop
 returns c =
@@ -74,8 +65,8 @@ write-lines-spec =
     loop-holds
     value-requires
     put-line-requires
-    add-k
-    loop-less
+    (λ c. search needs)
+    (λ c. search needs)
     loop-again
-    same-length
+    (λ c. search needs)
     returns)

@@ -6,17 +6,11 @@ use borrow.Author.Needs.{needs}
 use Rattle.sheet_writer.proofs.write_sheet.Statement.{statement}
 use Rattle.sheet_writer.proofs.write_sheet.Tie as tie
 
-standing-requires : tie.Need-standing-requires
-standing-requires c κs = search needs
-
 returns : tie.Need-returns
 returns c =
     let g = c .before .before .before .before .before .args in
     refused-standing (chip (g .s) (g .colours .now) (g .overlays .now)) (g .out .now) (c .before .standing .ensures)
     (c .if1 .taken)
-
-over-fifteen-requires : tie.Need-over-fifteen-requires
-over-fifteen-requires c κs = search needs
 
 returns-2 : tie.Need-returns-2
 returns-2 c =
@@ -24,9 +18,6 @@ returns-2 c =
     refused-colours (chip (g .s) (g .colours .now) (g .overlays .now)) (g .out .now)
     (sym (c .before .before .before .standing .ensures) ∙ c .before .before .if1 .left)
     (sym (c .before .over-fifteen .ensures) ∙ c .if2 .taken)
-
-over-fifteen-requires-2 : tie.Need-over-fifteen-requires-2
-over-fifteen-requires-2 c κs = search needs
 
 returns-3 : tie.Need-returns-3
 returns-3 c =
@@ -57,9 +48,6 @@ write-lines-requires c κs =
       c .before .if4 .left,
     )
 
-same-length : tie.Need-same-length
-same-length c = search needs
-
 returns-5 : tie.Need-returns-5
 returns-5 c =
     let start = c .before .before .before .before .before .before .before .before .before .before in
@@ -77,13 +65,13 @@ pub write-sheet-spec : {M : Type 1} → statement M
 write-sheet-spec =
     tie.close
     (tie.spec
-    standing-requires
+    (λ c κs. search needs)
     returns
-    over-fifteen-requires
+    (λ c κs. search needs)
     returns-2
-    over-fifteen-requires-2
+    (λ c κs. search needs)
     returns-3
     returns-4
     write-lines-requires
-    same-length
+    (λ c. search needs)
     returns-5)

@@ -22,18 +22,6 @@ loop-holds c =
     let e : c .args .from - c .args .from ≡ 0 = omega arith in
     (search needs, search needs, λ k. rw e (gather-none k))
 
-mul-bits : tie.Need-mul-bits Inv-loop μ-loop
-mul-bits c = search needs
-
-shared-slice-read-bits : tie.Need-shared-slice-read-bits Inv-loop μ-loop
-shared-slice-read-bits c = search needs
-
-add-i : tie.Need-add-i Inv-loop μ-loop
-add-i c = search needs
-
-loop-less : tie.Need-loop-less Inv-loop μ-loop
-loop-less c = search needs
-
 loop-again : tie.Need-loop-again Inv-loop μ-loop
 loop-again c =
     let a = c .before .before .before .args in
@@ -55,9 +43,9 @@ gathered-spec =
     Inv-loop
     μ-loop
     loop-holds
-    mul-bits
-    shared-slice-read-bits
-    add-i
-    loop-less
+    (λ c. search needs)
+    (λ c. search needs)
+    (λ c. search needs)
+    (λ c. search needs)
     loop-again
     returns)

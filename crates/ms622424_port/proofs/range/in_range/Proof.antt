@@ -27,9 +27,6 @@ returns-6 c m = sym (not-meets _ (λ g. omega arith))
 returns-7 : tie.Need-returns-7
 returns-7 c m = sym (not-meets _ (λ g. omega arith))
 
-queue-in-range-requires : tie.Need-queue-in-range-requires
-queue-in-range-requires c κs = search needs
-
 returns-8 : tie.Need-returns-8
 returns-8 c m =
     c .queue-in-range .ensures
@@ -47,5 +44,5 @@ in-range-spec =
     returns-5
     returns-6
     returns-7
-    queue-in-range-requires
+    (λ c κs. search needs)
     returns-8)

@@ -3,12 +3,6 @@ use borrow.Author.Needs.{needs}
 use Rattle.ms622424_port.proofs.range.queue_in_range.Statement.{statement}
 use Rattle.ms622424_port.proofs.range.queue_in_range.Tie as tie
 
-gathered-requires : tie.Need-gathered-requires
-gathered-requires c κs = search needs
-
-gathered-requires-2 : tie.Need-gathered-requires-2
-gathered-requires-2 c κs = search needs
-
 returns : tie.Need-returns
 returns c =
     let a = c .before .before .before .before .args in
@@ -23,9 +17,6 @@ returns-2 c =
     let b = c .before .before .gathered2 in
     high-bits (a .queue .now) (a .waiting) (f .result) (b .result) (search needs) (f .ensures) (b .ensures)
     (search needs)
-
-gathered-requires-3 : tie.Need-gathered-requires-3
-gathered-requires-3 c κs = search needs
 
 returns-3 : tie.Need-returns-3
 returns-3 c =
@@ -43,9 +34,6 @@ returns-4 c =
     back-used (a .queue .now) (a .waiting) (f .result) (b .result) (search needs) (f .ensures) (b .ensures)
     (search needs) (search needs) (c .if4 .taken)
 
-gathered-requires-4 : tie.Need-gathered-requires-4
-gathered-requires-4 c κs = search needs
-
 returns-5 : tie.Need-returns-5
 returns-5 c =
     let a = c .before .before .before .before .before .before .before .before .args in
@@ -58,12 +46,12 @@ pub queue-in-range-spec : {M : Type 1} → statement M
 queue-in-range-spec =
     tie.close
     (tie.spec
-    gathered-requires
-    gathered-requires-2
+    (λ c κs. search needs)
+    (λ c κs. search needs)
     returns
     returns-2
-    gathered-requires-3
+    (λ c κs. search needs)
     returns-3
     returns-4
-    gathered-requires-4
+    (λ c κs. search needs)
     returns-5)

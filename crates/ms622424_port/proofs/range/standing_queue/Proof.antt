@@ -9,9 +9,6 @@ use Rattle.ms622424_port.proofs.range.standing_queue.Tie as tie
 returns : tie.Need-returns
 returns c m = stands-short _ _ (not-fails _ (λ g. c .if1 .taken (g .0)))
 
-in-range-requires : tie.Need-in-range-requires
-in-range-requires c κs = search needs
-
 returns-2 : tie.Need-returns-2
 returns-2 c m =
     stands-outside _ _ (holds-passes _ (c .before .before .if1 .left, tt))
@@ -23,4 +20,4 @@ returns-3 c m =
     (meets-passes _ (sym (c .before .in-range .ensures m) ∙ not-false _ (c .if2 .left)))
 
 pub standing-queue-spec : {M : Type 1} → statement M
-standing-queue-spec = tie.close (tie.spec returns in-range-requires returns-2 returns-3)
+standing-queue-spec = tie.close (tie.spec returns (λ c κs. search needs) returns-2 returns-3)

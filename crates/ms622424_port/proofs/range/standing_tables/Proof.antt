@@ -12,9 +12,6 @@ use Rattle.ms622424_port.proofs.range.standing_tables.Tie as tie
 returns : tie.Need-returns
 returns c m e = stands-short _ _ (not-fails _ (λ g. c .if1 .taken (sym e ∙ g .1 .0)))
 
-standing-queue-requires : tie.Need-standing-queue-requires
-standing-queue-requires c κs = search needs
-
 returns-2 : tie.Need-returns-2
 returns-2 c m e =
     let a = c .before .before .before .args in
@@ -23,4 +20,4 @@ returns-2 c m e =
     ∙ ap (λ (short : Bool). refusalOf (standing short (fails (ranges d)))) (map-long d (e ∙ c .before .if1 .left))
 
 pub standing-tables-spec : {M : Type 1} → statement M
-standing-tables-spec = tie.close (tie.spec returns standing-queue-requires returns-2)
+standing-tables-spec = tie.close (tie.spec returns (λ c κs. search needs) returns-2)
