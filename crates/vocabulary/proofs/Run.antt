@@ -1,0 +1,126 @@
+-- Laws of runs, for any chip and any calls. Assumes nothing.
+use mathlib.Core.Path.{_≡_, refl, sym, ap, _∙_}
+use mathlib.Core.Bool.{Bool, true, false}
+use mathlib.Core.List.{List, [], _∷_, _++_, map, append-assoc}
+use Rattle.vocabulary.specs.Outcome.{Outcome}
+use Rattle.vocabulary.specs.Reply.{Reply, telling}
+use Rattle.vocabulary.specs.Run.{besides, after, gathered, Along, gatheredBesides}
+use Rattle.vocabulary.specs.Run.{replyTo, replies, Keeps, Unnoticed, Alike}
+use Rattle.vocabulary.proofs.Choice.{picks-first, picks-second, cases}
+
+-- ---- One run
+module _ {C K : Type 0} (step : K → C → Outcome C) where
+  -- in two parts: the second is made on what the first left
+  pub after-append : (ks ls : List K) (c : C) → after step (ks ++ ls) c ≡ after step ls (after step ks c)
+  unfolding after
+  after-append [] ls c = refl
+  after-append (k ∷ ks) ls c = after-append ks ls (step k c .left)
+
+  pub gathered-append : {A : Type 0} (gives : K → C → List A) (ks ls : List K) (c : C)
+      → gathered step gives (ks ++ ls) c ≡ gathered step gives ks c ++ gathered step gives ls (after step ks c)
+  unfolding after gathered
+  gathered-append gives [] ls c = refl
+  gathered-append gives (k ∷ ks) ls c =
+      let d = step k c .left in
+      ap (λ (l : List _). gives k c ++ l) (gathered-append gives ks ls d)
+      ∙ sym (append-assoc (gives k c) (gathered step gives ks d) (gathered step gives ls (after step ks d)))
+
+  pub along-append : (P : K → C → Type 0) (ks ls : List K) (c : C) → Along step P ks c
+      → Along step P ls (after step ks c) → Along step P (ks ++ ls) c
+  unfolding after Along
+  along-append P [] ls c h g = g
+  along-append P (k ∷ ks) ls c (h, hs) g = (h, along-append P ks ls (step k c .left) hs g)
+
+  -- what holds of every call holds along a run
+  pub along-all : (P : K → C → Type 0) → ((k : K) (c : C) → P k c) → (ks : List K) (c : C) → Along step P ks c
+  unfolding Along
+  along-all P h [] c = tt
+  along-all P h (k ∷ ks) c = (h k c, along-all P h ks (step k c .left))
+
+  -- what every call keeps, a run keeps; the calls may be such as a condition admits
+  pub run-keeps-where : (P : C → Type 0) (Q : K → C → Type 0)
+      → ((k : K) (c : C) → Q k c → P c → P (step k c .left)) → (ks : List K) (c : C) → Along step Q ks c → P c
+      → P (after step ks c)
+  unfolding after Along
+  run-keeps-where P Q keeps [] c q p = p
+  run-keeps-where P Q keeps (k ∷ ks) c (q, qs) p =
+      run-keeps-where P Q keeps ks (step k c .left) qs (keeps k c q p)
+
+  pub run-keeps : (P : C → Type 0) → Keeps step P → (ks : List K) (c : C) → P c → P (after step ks c)
+  run-keeps P keeps ks c p =
+      run-keeps-where P (λ (k : K) (d : C). Unit) (λ k d q h. keeps k d h) ks c (along-all _ (λ k d. tt) ks c) p
+
+-- ---- Two chips under the same calls
+module _ {C D K : Type 0} (step : K → C → Outcome C) (other : K → D → Outcome D) (R : C → D → Type 0)
+    (alike : Alike step other R) where
+  -- a run leaves them related, ..
+  pub run-related : (ks : List K) (c : C) (d : D) → R c d → R (after step ks c) (after other ks d)
+  unfolding after
+  run-related [] c d r = r
+  run-related (k ∷ ks) c d r = run-related ks _ _ (alike k c d r .0)
+
+  -- .. and its calls tell the same of both
+  pub run-replies : (ks : List K) (c : C) (d : D) → R c d → replies step ks c ≡ replies other ks d
+  unfolding gathered
+  run-replies [] c d r = refl
+  run-replies (k ∷ ks) c d r =
+      let (s, e) = alike k c d r in
+      ap (λ (l : List Reply). telling (step k c) ∷ l) (run-replies ks _ _ s)
+      ∙ ap (λ (t : Reply). t ∷ replies other ks (other k d .left)) e
+
+-- ---- Calls of a kind that leave their chip: no other call can tell whether they were made
+module _ {C K : Type 0} (step : K → C → Outcome C) (kind : K → Bool)
+    (stays : (k : K) (c : C) → kind k ≡ true → step k c .left ≡ c) where
+  -- a run is the run without them: where it ends, ..
+  after-besides : (ks : List K) (c : C) → after step ks c ≡ after step (besides kind ks) c
+  unfolding after besides
+  after-besides [] c = refl
+  after-besides (k ∷ ks) c =
+      cases (kind k)
+      (λ e. ap (after step ks) (stays k c e) ∙ (after-besides ks c
+      ∙ ap (λ (l : List K). after step l c) (sym (picks-first _ _ e))))
+      (λ e. after-besides ks (step k c .left) ∙ ap (λ (l : List K). after step l c) (sym (picks-second _ _ e)))
+
+  -- .. and what the others give
+  gathered-besides : {A : Type 0} (gives : K → C → List A) (ks : List K) (c : C)
+      → gatheredBesides step kind gives ks c ≡ gathered step gives (besides kind ks) c
+  unfolding gathered besides
+  gathered-besides gives [] c = refl
+  gathered-besides {A} gives (k ∷ ks) c =
+      let all = gatheredBesides step kind gives ks in
+      cases (kind k)
+      (λ e.
+      ap (λ (l : List A). l ++ all (step k c .left)) (picks-first [] (gives k c) e)
+      ∙ (ap all (stays k c e)
+      ∙ (gathered-besides gives ks c
+      ∙ ap (λ (l : List K). gathered step gives l c) (sym (picks-first _ _ e)))))
+      (λ e.
+      ap (λ (l : List A). l ++ all (step k c .left)) (picks-second [] (gives k c) e)
+      ∙ (ap (λ (l : List A). gives k c ++ l) (gathered-besides gives ks (step k c .left))
+      ∙ ap (λ (l : List K). gathered step gives l c) (sym (picks-second _ _ e))))
+
+  module _ (ks ls : List K) (c : C) (same : besides kind ks ≡ besides kind ls) where
+    ends-alike : after step ks c ≡ after step ls c
+    ends-alike = after-besides ks c ∙ (ap (λ (l : List K). after step l c) same ∙ sym (after-besides ls c))
+
+    -- whatever of a call and its chip is gathered, the others give the same
+    pub gives-alike : {A : Type 0} (gives : K → C → List A)
+        → gatheredBesides step kind gives ks c ≡ gatheredBesides step kind gives ls c
+    gives-alike gives =
+        gathered-besides gives ks c
+        ∙ (ap (λ (l : List K). gathered step gives l c) same ∙ sym (gathered-besides gives ls c))
+
+  pub unnoticed : Unnoticed step kind
+  unnoticed = record { hears = λ ks ls c same. gives-alike ks ls c same (replyTo step); ends = ends-alike }
+
+-- ---- Calls of one type made as calls of another
+module _ {C J K : Type 0} (step : K → C → Outcome C) (f : J → K) where
+  pub after-map : (js : List J) (c : C) → after step (map f js) c ≡ after (λ (j : J) (d : C). step (f j) d) js c
+  unfolding after
+  after-map [] c = refl
+  after-map (j ∷ js) c = after-map js (step (f j) c .left)
+
+  pub replies-map : (js : List J) (c : C) → replies step (map f js) c ≡ replies (λ (j : J) (d : C). step (f j) d) js c
+  unfolding gathered
+  replies-map [] c = refl
+  replies-map (j ∷ js) c = ap (λ (l : List Reply). telling (step (f j) c) ∷ l) (replies-map js (step (f j) c .left))
