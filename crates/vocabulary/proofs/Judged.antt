@@ -4,11 +4,12 @@ use mathlib.Core.Path.{_≡_, refl, ap, _∙_}
 use mathlib.Core.Bool.{Bool}
 use mathlib.Core.List.{List, [], _∷_}
 use native.Mathlib.Omega.{arith}
 use Rattle.vocabulary.specs.Refusal.{Refusal, Row, due, order, firstDue, refusalOf}
 use Rattle.vocabulary.specs.Outcome.{Outcome, refusing, answeredAt}
-use Rattle.vocabulary.proofs.Refusal.{None, First, number-positive, refusal-is, refusal-exactly, none-exactly}
+use Rattle.vocabulary.proofs.Refusal.{number-positive, refusal-is, refusal-exactly, none-exactly}
 use Rattle.vocabulary.proofs.Outcome.{refusal-keeps, accepted-does, accepted-none}
-use Rattle.claims.specs.Judged.{Judged}
+use Rattle.vocabulary.specs.Judged.{None, First, Judged}
+use Rattle.vocabulary.specs.Face.{calledBy}
 
 none-due : (d : Refusal → Bool) (rs : List Refusal) → None d rs → firstDue d rs ≡ 0
 none-due d [] h = refl
@@ -38,3 +39,10 @@ module _ {C : Type 0} (rows : List Row) (line : ℕ) (given : C) (done : Outcome
     refused-due = λ n f. refusal-exactly rows n (given-due e (refusalOf rows) n f);
     accepted-clear = λ f. none-exactly rows (accepted-none (refusalOf rows) line given done f);
   }
+
+-- so every call of a chip is judged by its row of the face
+pub called-judged : {C K : Type 0} (refusals : K → C → List Row) (does : K → C → Outcome C)
+    → ((k : K) (c : C) → does k c .refusal ≡ 0) → (k : K) (c : C)
+    → Judged (refusals k c) 0 c (calledBy refusals does k c)
+unfolding calledBy
+called-judged refusals does accepts k c = judged (refusals k c) 0 c (does k c) (accepts k c)
