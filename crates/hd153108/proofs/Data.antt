@@ -3,7 +3,8 @@ use Prim.Native.Nat.{ℕ}
 use native.Mathlib.Omega.{arith}
 use mathlib.Core.Path.{_≡_, refl}
 use Rattle.hd153108.specs.Hd153108.{Chip, Table, colour, overlay, entryAt, tableOf, withTable, withState}
-use Rattle.hd153108.specs.Hd153108.{port, next, stepped, nibble, latched, put, stored, dataWrite}
+use Rattle.hd153108.specs.Hd153108.{port, next, stepped, nibble, latched, stored, dataWrite}
+use Rattle.vocabulary.specs.Component.{put}
 use Rattle.hd153108.proofs.Access.{is-red, is-green, is-blue}
 
 -- the chip with another address, pointer, latched red and latched green
@@ -30,7 +31,7 @@ pub blue-write : (t : Table) (byte : ℕ) (c : Chip) → c .state .pointer ≡ 2
     ≡ withTable t (put (entryAt t (c .state .address)) (c .state .red) (c .state .green) (nibble byte) (tableOf t c))
     (at c (next t (c .state .address)) 0 (c .state .red) (c .state .green))
 unfolding dataWrite stepped latched stored
-blue-write t byte c e = rw (is-blue (c .state .pointer) ((tt, λ z. omega arith), λ z. omega arith))
+blue-write t byte c e = rw (is-blue (c .state .pointer) (λ z. omega arith) (λ z. omega arith))
 
 -- One pair of latches: red and green may come by either select, and the table of the blue write stores them.
 pub latches-shared : (t u v : Table) (r g b : ℕ) (c : Chip) → c .state .pointer ≡ 0

@@ -6,7 +6,8 @@ use native.Mathlib.Omega.{arith}
 use native.Mathlib.Nat.{add-suc, pow-suc, div-div-eq-div-mul, div-one, mul-comm}
 use lib.Pow.{pow-pos}
 use lib.Bits.{bitAnd, and-step}
-use Rattle.hd153108.specs.Hd153108.{line, lineReads, masked}
+use Rattle.vocabulary.specs.Line.{line}
+use Rattle.hd153108.specs.Hd153108.{lineReads, masked}
 
 -- ---- one line
 

@@ -2,7 +2,8 @@
 use Prim.Native.Nat.{ℕ, suc}
 use mathlib.Core.Path.{_≡_, refl}
 use Rattle.hd153108.specs.declared.State.{State}
-use Rattle.hd153108.specs.Hd153108.{colour, overlay, line, selected, shownTable}
+use Rattle.vocabulary.specs.Line.{line}
+use Rattle.hd153108.specs.Hd153108.{colour, overlay, selected, shownTable}
 
 module _ (s : State) (number : ℕ) where
   -- OLE 0

@@ -1,15 +1,20 @@
 -- The HD153108, chip A: source document 003, and document 01, "Chip A", where 003 leaves a choice ("ruling").
--- In 003's order: 1 Address Register, 2 Access to CLT/OLT, 3 Internal Registers, pixel selection (Table 4); then the
--- ranges, and each call: when it is refused, and its whole outcome. A bit named bN in 003 is line N here.
-use Prim.Native.Nat.{ℕ, zero, suc, _+_, _-_, _*_, _/_, _%_, _^_}
-use mathlib.Core.Bool.{Bool, true, false, _||_}
+-- In 003's order: 1 Address Register, 2 Access to CLT/OLT, 3 Internal Registers, pixel selection (Table 4); then what
+-- the code's answers say, and the face: the ranges, and each call, when it is refused and what it does. A bit named bN
+-- in 003 is line N here.
+use Prim.Native.Nat.{ℕ, zero, suc, _+_, _-_, _*_, _/_, _%_, _<_}
+use mathlib.Core.Path.{_≡_}
+use mathlib.Core.Bool.{Bool, true, false}
 use mathlib.Core.List.{List, [], _∷_, _++_}
-use lib.Dec.{ltb, leb}
+use lib.Dec.{leb}
 use lib.Bits.{bitAnd}
-use lib.ListN.{length, getD, set, take, drop}
+use lib.ListN.{length, getD, take, drop}
+use Rattle.vocabulary.specs.Line.{line}
 use Rattle.vocabulary.specs.Range.{Bound, below, equal, clear, fails}
 use Rattle.vocabulary.specs.Refusal.{Row, _when_, lentLength, outOfRange, noAccess, refusalOf}
 use Rattle.vocabulary.specs.Outcome.{Outcome, accepting, answered}
+use Rattle.vocabulary.specs.Component.{Component, red, green, blue, componentAt, put, colourWord}
+use Rattle.vocabulary.specs.Face.{calledBy}
 use Rattle.hd153108.specs.declared.Clock.{Clock}
 use Rattle.hd153108.specs.declared.State.{State}
 use Rattle.hd153108.specs.declared.Answer.{Answer}
@@ -54,16 +59,8 @@ registerAt select =
     [])
     select reserved
 
-pub data Component : Type 0 where
-  red : Component
-  green : Component
-  blue : Component
-
--- Table 2: A0-A1 are the R.G.B pointer
-unfoldable pub componentAt : ℕ → Component
-componentAt pointer = getD (red ∷ green ∷ blue ∷ []) pointer blue
-
--- Table 2: A2-A9 select the word, $00-$FF of the colours; of the overlays the low two bits do (ruling)
+-- Table 2: A0-A1 are the R.G.B pointer, `componentAt` of the vocabulary. A2-A9 select the word, $00-$FF of the colours;
+-- of the overlays the low two bits do (ruling)
 abbrev pub entryAt : Table → ℕ → ℕ
 entryAt colour address = address
 entryAt overlay address = address % 4
@@ -124,10 +121,6 @@ latched red byte s = port s (s .address) (s .pointer) (nibble byte) (s .green)
 latched green byte s = port s (s .address) (s .pointer) (s .red) (nibble byte)
 latched blue byte s = s
 
--- a table with a colour at an entry, red first
-unfoldable pub put : ℕ → ℕ → ℕ → ℕ → List ℕ → List ℕ
-put entry r g b t = set (set (set t (3 * entry) r) (3 * entry + 1) g) (3 * entry + 2) b
-
 -- "write to R, G and B is taken simultaneously", at the blue write
 unfoldable pub stored : Component → ℕ → ℕ → State → List ℕ → List ℕ
 stored red entry byte s t = t
@@ -159,10 +152,6 @@ registers s read blink control k = record {
   control = control;
   clock = k;
 }
-
--- line k of a number: its bit k
-abbrev pub line : ℕ → ℕ → ℕ
-line n k = n / 2 ^ k % 2
 
 -- 1 and 2. What one line reads: 0 where its read mask bit is 1; in the off time 0 where its blink mask bit is 0
 -- (ruling); else as it is
@@ -211,41 +200,41 @@ restarted timing = clock timing 0
 abbrev pub ticked : Clock → Clock
 ticked k = clock (k .timing) ((k .position + 1) % period (k .timing))
 
+-- the chip with another blink clock
+abbrev pub withClock : Clock → Chip → Chip
+withClock k c = let s = c .state in withState (registers s (s .readmask) (s .blinkmask) (s .control) k) c
+
 -- ---- What an accepted access does to each register (Table 1.1, Table 3)
 
-unfoldable pub written : Register → ℕ → Chip → Chip
-written addressRegister byte c = withState (addressed byte (c .state)) c
-written (dataOf t) byte c = dataWrite t byte c
-written reserved byte c = c
+-- the reserved register's accesses are refused: its clauses are not reached
+abbrev pub notReached : Chip → Outcome Chip
+notReached c = accepting 0 0 c
+
+unfoldable pub written : Register → ℕ → Chip → Outcome Chip
+written addressRegister byte c = accepting 0 0 (withState (addressed byte (c .state)) c)
+written (dataOf t) byte c = accepting 0 0 (dataWrite t byte c)
+written reserved byte c = notReached c
 written readMask byte c =
-    let s = c .state in withState (registers s byte (s .blinkmask) (s .control) (s .clock)) c
+    let s = c .state in accepting 0 0 (withState (registers s byte (s .blinkmask) (s .control) (s .clock)) c)
 written blinkMask byte c =
-    let s = c .state in withState (registers s (s .readmask) byte (s .control) (s .clock)) c
+    let s = c .state in accepting 0 0 (withState (registers s (s .readmask) byte (s .control) (s .clock)) c)
 written overlayControl byte c =
-    let s = c .state in withState (registers s (s .readmask) (s .blinkmask) (unreserved byte) (s .clock)) c
-written blinkTiming byte c =
-    let s = c .state in withState (registers s (s .readmask) (s .blinkmask) (s .control) (restarted byte)) c
+    let s = c .state in
+    accepting 0 0 (withState (registers s (s .readmask) (s .blinkmask) (unreserved byte) (s .clock)) c)
+written blinkTiming byte c = accepting 0 0 (withClock (restarted byte) c)
 
--- what a read answers
-unfoldable pub answers : Register → Chip → ℕ
-answers addressRegister c = c .state .address
-answers (dataOf t) c = dataRead t c
-answers reserved c = 0
-answers readMask c = c .state .readmask
-answers blinkMask c = c .state .blinkmask
-answers overlayControl c = c .state .control
-answers blinkTiming c = c .state .clock .timing
-
--- and what it moves: an address read sets the pointer to red too (Table 3: 00 to A0-A1), a data read steps it
-unfoldable pub moved : Register → Chip → Chip
-moved addressRegister c = withState (addressed (c .state .address) (c .state)) c
-moved (dataOf t) c =
-    let s = c .state in withState (stepped (componentAt (s .pointer)) (next t (s .address)) s) c
-moved reserved c = c
-moved readMask c = c
-moved blinkMask c = c
-moved overlayControl c = c
-moved blinkTiming c = c
+-- what a read answers and moves: an address read sets the pointer to red too (Table 3: 00 to A0-A1), a data read steps it
+unfoldable pub answers : Register → Chip → Outcome Chip
+answers addressRegister c =
+    let s = c .state in accepting (s .address) 0 (withState (addressed (s .address) s) c)
+answers (dataOf t) c =
+    let s = c .state in
+    accepting (dataRead t c) 0 (withState (stepped (componentAt (s .pointer)) (next t (s .address)) s) c)
+answers reserved c = notReached c
+answers readMask c = accepting (c .state .readmask) 0 c
+answers blinkMask c = accepting (c .state .blinkmask) 0 c
+answers overlayControl c = accepting (c .state .control) 0 c
+answers blinkTiming c = accepting (c .state .clock .timing) 0 c
 
 -- ---- Pixel selection
 
@@ -276,19 +265,48 @@ shown enable number byte c =
     let t = shownTable enable number (c .state) in
     colourAt (shownEntry t number byte (c .state)) (tableOf t c)
 
--- ---- Ranges: what refusals 1 and 9 test
+-- the colour that three bytes are, in one number; no byte is 0
+abbrev pub colourOf : List ℕ → ℕ
+colourOf bytes = colourWord (getD bytes 0 0) (getD bytes 1 0) (getD bytes 2 0)
 
--- both tables have their lengths
-abbrev pub lengths : ℕ → ℕ → List Bound
-lengths colours overlays = equal colours (3 * size colour) ∷ equal overlays (3 * size overlay) ∷ []
+-- ---- What the code's answers say
 
--- the blink position lies below its period
+-- an answer that refuses, and one that accepts
+abbrev pub refuse : ℕ → State → Answer
+refuse n s = record { refusal = n; value = 0; state = s }
+
+abbrev pub accept : ℕ → State → Answer
+accept value s = record { refusal = 0; value = value; state = s }
+
+-- an answer and the lent tables as they are after the call, as an outcome
+abbrev pub outcome : Answer → List ℕ → List ℕ → Outcome Chip
+outcome a colours overlays = record {
+  refusal = a .refusal;
+  value = a .value;
+  count = 0;
+  line = 0;
+  left = chip (a .state) colours overlays;
+}
+
+-- ---- The face
+
+-- what refusal 1 asks: both tables have their lengths
+abbrev pub lengthsOf : ℕ → ℕ → List Bound
+lengthsOf colours overlays = equal colours (3 * size colour) ∷ equal overlays (3 * size overlay) ∷ []
+
+abbrev pub lengths : Chip → List Bound
+lengths c = lengthsOf (length (c .colours)) (length (c .overlays))
+
+abbrev pub short : Chip → Bool
+short c = fails (lengths c)
+
+-- what refusal 9 asks: the blink position lies below its period, ..
 abbrev pub clockRanges : Clock → List Bound
 clockRanges k = below (k .timing) 256 ∷ below (k .position) (period (k .timing)) ∷ []
 
--- an address of 8 bits, a pointer 0..2, latches of 4 bits, registers of 8 bits with no reserved bit set
-abbrev pub ranges : State → List Bound
-ranges s =
+-- .. an address of 8 bits, a pointer 0..2, latches of 4 bits, registers of 8 bits with no reserved bit set
+abbrev pub stateRanges : State → List Bound
+stateRanges s =
     below (s .address) 256 ∷
     below (s .pointer) 3 ∷
     below (s .red) 16 ∷
@@ -299,100 +317,112 @@ ranges s =
     clear (s .control) reservedBits ∷
     clockRanges (s .clock)
 
+abbrev pub ranges : Chip → List Bound
+ranges c = stateRanges (c .state)
+
+abbrev pub outside : Chip → Bool
+outside c = fails (ranges c)
+
+-- the same as facts, by name: the two tables say the same of a chip (proofs/InRange.antt)
+pub record InRange (c : Chip) : Type 0 where
+  pub colours : length (c .colours) ≡ 3 * size colour
+  pub overlays : length (c .overlays) ≡ 3 * size overlay
+  pub address : c .state .address < 256
+  pub pointer : c .state .pointer < 3
+  pub red : c .state .red < 16
+  pub green : c .state .green < 16
+  pub readmask : c .state .readmask < 256
+  pub blinkmask : c .state .blinkmask < 256
+  pub control : c .state .control < 256
+  pub nothing-reserved : bitAnd (c .state .control) reservedBits ≡ 0
+  pub timing : c .state .clock .timing < 256
+  pub position : c .state .clock .position < period (c .state .clock .timing)
+
+-- when an access is refused, of what it is given and its select: 3 where the select has no register, or the reserved one
+abbrev pub noRegister : Register → Bool
+noRegister reserved = true
+noRegister addressRegister = false
+noRegister (dataOf t) = false
+noRegister readMask = false
+noRegister blinkMask = false
+noRegister overlayControl = false
+noRegister blinkTiming = false
+
+abbrev pub accessRefusals : List Bound → ℕ → Chip → List Row
+accessRefusals given select c =
+    (lentLength when short c) ∷
+    (outOfRange when fails (given ++ ranges c)) ∷
+    (noAccess when noRegister (registerAt select)) ∷
+    []
+
+abbrev pub writeRefusals : ℕ → ℕ → Chip → List Row
+writeRefusals select byte c = accessRefusals (below byte 256 ∷ []) select c
+
+abbrev pub readRefusals : ℕ → Chip → List Row
+readRefusals select c = accessRefusals [] select c
+
+-- a tick asks of the clock alone
+abbrev pub tickRefusals : Clock → List Row
+tickRefusals k = (outOfRange when fails (clockRanges k)) ∷ []
+
 -- a pixel's overlay enable is 0 or 1, and its overlay number 0..3, with the enable off too
 abbrev pub pixelRanges : ℕ → ℕ → List Bound
 pixelRanges enable number = below enable 2 ∷ below number 4 ∷ []
 
--- ---- The calls
+abbrev pub pixelRefusals : ℕ → ℕ → Chip → List Row
+pixelRefusals enable number c =
+    (lentLength when short c) ∷ (outOfRange when fails (pixelRanges enable number ++ ranges c)) ∷ []
 
--- a lent table without its length; a state out of range
-abbrev pub short : Chip → Bool
-short c = fails (lengths (length (c .colours)) (length (c .overlays)))
+pub data Call : Type 0 where
+  -- select and byte
+  writes : ℕ → ℕ → Call
+  -- select
+  reads : ℕ → Call
+  resets : Call
+  ticks : Call
+  -- overlay enable, overlay number and byte
+  pixels : ℕ → ℕ → ℕ → Call
 
-abbrev pub outside : Chip → Bool
-outside c = fails (ranges (c .state))
+-- a reset reads no part of the state, so it is never refused
+abbrev pub refusals : Call → Chip → List Row
+refusals (writes select byte) c = writeRefusals select byte c
+refusals (reads select) c = readRefusals select c
+refusals resets c = []
+refusals ticks c = tickRefusals (c .state .clock)
+refusals (pixels enable number byte) c = pixelRefusals enable number c
 
-abbrev pub isReserved : Register → Bool
-isReserved reserved = true
-isReserved addressRegister = false
-isReserved (dataOf t) = false
-isReserved readMask = false
-isReserved blinkMask = false
-isReserved overlayControl = false
-isReserved blinkTiming = false
+-- every number 0, the blink at the start of its on time
+abbrev pub zeroed : State
+zeroed = record {
+  address = 0;
+  pointer = 0;
+  red = 0;
+  green = 0;
+  readmask = 0;
+  blinkmask = 0;
+  control = 0;
+  clock = restarted 0;
+}
 
--- a select over 7, or reserved
-abbrev pub noRegister : ℕ → Bool
-noRegister select = ltb 7 select || isReserved (registerAt select)
+-- a reset keeps the tables, since it is lent none (ruling); a pixel answers the shown colour and changes nothing
+abbrev pub does : Call → Chip → Outcome Chip
+does (writes select byte) c = written (registerAt select) byte c
+does (reads select) c = answers (registerAt select) c
+does resets c = accepting 0 0 (withState zeroed c)
+does ticks c = accepting 0 0 (withClock (ticked (c .state .clock)) c)
+does (pixels enable number byte) c = accepting (colourOf (shown enable number byte c)) 0 c
 
--- when a write or a read is refused
-abbrev pub accessRefusals : ℕ → Chip → List Row
-accessRefusals select c =
-    (lentLength when short c) ∷
-    (outOfRange when outside c) ∷
-    (noAccess when noRegister select) ∷
-    []
+abbrev pub called : Call → Chip → Outcome Chip
+called k c = calledBy refusals does k c
 
-unfoldable pub write : ℕ → ℕ → Chip → Outcome Chip
-write select byte c =
-    answered (refusalOf (accessRefusals select c)) c (accepting 0 0 (written (registerAt select) byte c))
-
-unfoldable pub read : ℕ → Chip → Outcome Chip
-read select c =
-    answered (refusalOf (accessRefusals select c)) c
-    (accepting (answers (registerAt select) c) 0 (moved (registerAt select) c))
-
--- a reset reads no part of the state, so it is never refused; the tables are kept, since it is lent none (ruling)
-unfoldable pub reset : State → Outcome State
-reset s =
-    accepting 0 0
-    (record {
-      address = 0;
-      pointer = 0;
-      red = 0;
-      green = 0;
-      readmask = 0;
-      blinkmask = 0;
-      control = 0;
-      clock = restarted 0;
-    })
-
--- a tick, by value or on a lent clock
-abbrev pub tickRefusals : Clock → List Row
-tickRefusals k = (outOfRange when fails (clockRanges k)) ∷ []
-
+-- two calls as the code is lent them (proofs/Lent.antt has what they are of `called`): a tick of a clock, ..
 unfoldable pub tick : Clock → Outcome Clock
 tick k = answered (refusalOf (tickRefusals k)) k (accepting 0 0 (ticked k))
 
--- a pixel hands back the three bytes of the chosen table, and where it is refused no byte
-abbrev pub pixelRefusals : ℕ → ℕ → Chip → List Row
-pixelRefusals enable number c =
-    (lentLength when short c) ∷ (outOfRange when fails (ranges (c .state) ++ pixelRanges enable number)) ∷ []
-
-unfoldable pub pixelOr : List ℕ → ℕ → ℕ → ℕ → Chip → Outcome (List ℕ)
-pixelOr refused enable number byte c =
-    answered (refusalOf (pixelRefusals enable number c)) refused (accepting 0 0 (shown enable number byte c))
-
-abbrev pub pixel : ℕ → ℕ → ℕ → Chip → Outcome (List ℕ)
-pixel enable number byte c = pixelOr [] enable number byte c
-
--- the form for C has three bytes always, zeros where it is refused
-abbrev pub pixelBytes : ℕ → ℕ → ℕ → Chip → Outcome (List ℕ)
-pixelBytes enable number byte c = pixelOr (0 ∷ 0 ∷ 0 ∷ []) enable number byte c
-
--- ---- What an answer says, with the lent tables as they are after the call
-
-abbrev pub outcome : Answer → List ℕ → List ℕ → Outcome Chip
-outcome a colours overlays = record {
-  refusal = a .refusal;
-  value = a .value;
-  count = 0;
-  line = 0;
-  left = chip (a .state) colours overlays;
-}
-
-abbrev pub stateOutcome : Answer → Outcome State
-stateOutcome a = record { refusal = a .refusal; value = a .value; count = 0; line = 0; left = a .state }
-
 abbrev pub clockOutcome : ℕ → Clock → Outcome Clock
 clockOutcome refusal k = record { refusal = refusal; value = 0; count = 0; line = 0; left = k }
+
+-- .. and a pixel that hands back the three bytes of the chosen table, and where it is refused no byte
+unfoldable pub pixelPart : ℕ → ℕ → ℕ → Chip → Outcome (List ℕ)
+pixelPart enable number byte c =
+    answered (refusalOf (pixelRefusals enable number c)) [] (accepting 0 0 (shown enable number byte c))

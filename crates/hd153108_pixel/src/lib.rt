@@ -1,17 +1,17 @@
 // The HD153108's pixel (chip A): the colour that hd153108_shown picks, handed back.
 //
-// Source document 003, Table 4, with document 01's rulings, decides; the rule is `pixel` of hd153108's
-// specs/Hd153108.antt. The shown colour is handed back as a part of a lent table, not copied; C gets three bytes. No
-// call here changes a state or a table. Not modelled: analogue output, blanking, pipeline delay.
+// Source document 003, Table 4, with document 01's rulings, decides; the rule is `called` of `pixels` in hd153108's
+// specs/Hd153108.antt, and for the part `pixelPart` (`pixel-lent` says that they are one). The shown colour is handed
+// back as a part of a lent table, not copied; C gets three bytes. No call here changes a state or a table. Not modelled:
+// analogue output, blanking, pipeline delay.
 use hd153108::State;
 use hd153108_shown::Pick;
 use hd153108_shown::picked;
 ghost use mathlib.Core.Path.{_≡_};
 ghost use Prim.Native.Nat.{_+_, _*_, _≤_};
 ghost use lib.ListN.{length};
-ghost use Rattle.vocabulary.specs.Outcome.{accepting};
-ghost use Rattle.hd153108.specs.Hd153108.{chip, colourAt, pixel as pixelOf, pixelBytes};
-ghost use Rattle.hd153108_pixel.specs.Outcome.{shownOutcome};
+ghost use Rattle.hd153108.specs.Hd153108.{chip, colourAt, pixelPart, pixels, called};
+ghost use Rattle.hd153108_pixel.specs.Outcome.{showing, lit};
 
 // The shown colour for C: refusal (0 for none) and three bytes, zeros where it is refused.
 #[repr(C)]
@@ -32,7 +32,7 @@ pub fn pixel<'a>(
     byte: u8,
 ) -> &'a [u8]
     ensures { λ r. ⌜ now r
-        ≡ pixelOf enable number byte (chip s (now (colours .entry)) (now (overlays .entry))) .left ⌝ }
+        ≡ pixelPart enable number byte (chip s (now (colours .entry)) (now (overlays .entry))) .left ⌝ }
 {
     let p = picked(s, colours, overlays, enable, number, byte);
     match p {
@@ -59,7 +59,7 @@ pub extern "C" fn zk_a_pixel_refusal(
     byte: u8,
 ) -> u8
     ensures { λ r. ⌜ r
-        ≡ pixelOf enable number byte (chip s (now (colours .entry)) (now (overlays .entry))) .refusal ⌝ }
+        ≡ called (pixels enable number byte) (chip s (now (colours .entry)) (now (overlays .entry))) .refusal ⌝ }
 {
     let p = picked(s, colours, overlays, enable, number, byte);
     match p {
@@ -72,7 +72,7 @@ pub extern "C" fn zk_a_pixel_refusal(
 // An entry's three bytes.
 fn shown_at(t: &[u8], e: usize) -> Shown
     requires { ⌜ 3 * e + 3 ≤ length (now t) ⌝ }
-    ensures { λ r. ⌜ shownOutcome r ≡ accepting 0 0 (colourAt e (now (t .entry))) ⌝ }
+    ensures { λ r. ⌜ r ≡ lit (colourAt e (now (t .entry))) ⌝ }
 {
     let at = 3 * e;
     Shown {
@@ -93,8 +93,8 @@ pub extern "C" fn zk_a_pixel(
     number: u8,
     byte: u8,
 ) -> Shown
-    ensures { λ r. ⌜ shownOutcome r
-        ≡ pixelBytes enable number byte (chip s (now (colours .entry)) (now (overlays .entry))) ⌝ }
+    ensures { λ r. ⌜ showing r (chip s (now (colours .entry)) (now (overlays .entry)))
+        ≡ called (pixels enable number byte) (chip s (now (colours .entry)) (now (overlays .entry))) ⌝ }
 {
     let p = picked(s, colours, overlays, enable, number, byte);
     match p {

@@ -9,13 +9,12 @@ use hd153108::State;
 ghost use mathlib.Core.Path.{_≡_};
 ghost use Rattle.vocabulary.specs.Range.{meets, fails};
 ghost use Rattle.vocabulary.specs.Refusal.{refusalOf, standing as standingRows};
-ghost use Rattle.vocabulary.specs.Outcome.{accepting, refusing};
-ghost use Rattle.hd153108.specs.Hd153108.{colour, overlay, next, onTime, period, isOff, lengths, ranges};
-ghost use Rattle.hd153108.specs.Hd153108.{port as portOf, registers as registersOf, stateOutcome};
+ghost use Rattle.hd153108.specs.Hd153108.{colour, overlay, next, onTime, period, isOff, lengthsOf, stateRanges};
+ghost use Rattle.hd153108.specs.Hd153108.{port as portOf, registers as registersOf, refuse, accept};
 
 // A call that is refused, and one that is accepted.
 pub fn refused(n: u8, s: State) -> Answer
-    ensures { λ r. ⌜ stateOutcome r ≡ refusing n 0 s ⌝ }
+    ensures { λ r. ⌜ r ≡ refuse n s ⌝ }
 {
     Answer {
         refusal: n,
@@ -25,7 +24,7 @@ pub fn refused(n: u8, s: State) -> Answer
 }
 
 pub fn accepted(v: u8, s: State) -> Answer
-    ensures { λ r. ⌜ stateOutcome r ≡ accepting v 0 s ⌝ }
+    ensures { λ r. ⌜ r ≡ accept v s ⌝ }
 {
     Answer {
         refusal: 0,
@@ -83,7 +82,7 @@ pub fn blink_off(k: Clock) -> bool
 
 // Whether a state is in its ranges.
 fn good(s: State) -> bool
-    ensures { λ r. ⌜ r ≡ meets (ranges s) ⌝ }
+    ensures { λ r. ⌜ r ≡ meets (stateRanges s) ⌝ }
 {
     if 3 <= s.pointer {
         return false;
@@ -103,7 +102,7 @@ fn good(s: State) -> bool
 
 // What every call tries first: the lengths of the lent tables, then the state's ranges.
 pub fn standing(s: State, colours: usize, overlays: usize) -> u8
-    ensures { λ r. ⌜ r ≡ refusalOf (standingRows (fails (lengths colours overlays)) (fails (ranges s))) ⌝ }
+    ensures { λ r. ⌜ r ≡ refusalOf (standingRows (fails (lengthsOf colours overlays)) (fails (stateRanges s))) ⌝ }
 {
     if colours != 768 {
         return 1;

@@ -1,7 +1,7 @@
 // The HD153108's read access (chip A): the address, the data of either table, the registers.
 //
 // Source document 003, Register Mapping, Access to CLT/OLT and Internal Registers, with document 01's rulings, decides;
-// the rule is `read` of hd153108's specs/Hd153108.antt. Not modelled: as there.
+// the rule is `called` of `reads` in hd153108's specs/Hd153108.antt. Not modelled: as there.
 use hd153108::Answer;
 use hd153108::State;
 use hd153108_port::accepted;
@@ -13,8 +13,8 @@ use hd153108_port::standing;
 ghost use mathlib.Core.Path.{_≡_};
 ghost use Prim.Native.Nat.{_+_, _*_, _≤_, _<_};
 ghost use lib.ListN.{length, getD};
-ghost use Rattle.vocabulary.specs.Outcome.{accepting};
-ghost use Rattle.hd153108.specs.Hd153108.{chip, componentAt, stepped as steppedOf, read, stateOutcome, outcome};
+ghost use Rattle.vocabulary.specs.Component.{componentAt};
+ghost use Rattle.hd153108.specs.Hd153108.{chip, stepped as steppedOf, accept, outcome, reads, called};
 
 // The pointer's move after a data read.
 fn stepped(s: State, after: u8) -> State
@@ -31,8 +31,8 @@ fn stepped(s: State, after: u8) -> State
 // A data read of either table.
 fn data_read(s: State, t: &[u8], e: usize, after: u8) -> Answer
     requires { ⌜ (3 * e + 3 ≤ length (now t)) × (s .pointer < 3) ⌝ }
-    ensures { λ r. ⌜ stateOutcome r
-        ≡ accepting (getD (now (t .entry)) (3 * e + s .pointer) 0) 0 (steppedOf (componentAt (s .pointer)) after s) ⌝ }
+    ensures { λ r. ⌜ r
+        ≡ accept (getD (now (t .entry)) (3 * e + s .pointer) 0) (steppedOf (componentAt (s .pointer)) after s) ⌝ }
 {
     let at = 3 * e + (s.pointer as usize);
     accepted(t[at], stepped(s, after))
@@ -42,7 +42,7 @@ fn data_read(s: State, t: &[u8], e: usize, after: u8) -> Answer
 #[no_mangle]
 pub extern "C" fn zk_a_read(s: State, select: u8, colours: &[u8], overlays: &[u8]) -> Answer
     ensures { λ r. ⌜ outcome r (now (colours .entry)) (now (overlays .entry))
-        ≡ read select (chip s (now (colours .entry)) (now (overlays .entry))) ⌝ }
+        ≡ called (reads select) (chip s (now (colours .entry)) (now (overlays .entry))) ⌝ }
 {
     let refusal = standing(s, colours.len(), overlays.len());
     if refusal != 0 {

@@ -1,27 +1,29 @@
--- Laws of the pixel rule: which refusal, and which entry shows. Assumes nothing.
+-- Laws of the pixel rule: which refusal, and which entry shows, as the code knows it, so that a search closes its walk;
+-- then what whoever is given the decision knows. Assumes nothing.
 use Prim.Native.Nat.{ℕ, zero, suc, _+_, _*_, _-_, _/_, _≤_, _<_}
 use mathlib.Core.Path.{_≡_, refl, sym, ap, _∙_}
 use mathlib.Core.List.{List, [], _∷_, _++_}
-use mathlib.Core.Bool.{true, false}
+use mathlib.Core.Bool.{Bool, true, false}
 use native.Mathlib.Omega.{arith}
-use native.Mathlib.Numerals.{add-one, add-two}
 use lib.Dec.{eqb}
-use lib.ListN.{length, getD}
-use lib.Seq.{drop-cons}
+use lib.ListN.{length, take, drop}
 use borrow.Author.Tests.{ne-eqb}
 use Rattle.vocabulary.specs.Range.{Holds}
 use Rattle.vocabulary.specs.Refusal.{lentLength, outOfRange, refusalOf}
-use Rattle.vocabulary.specs.Outcome.{Outcome, accepting}
-use Rattle.vocabulary.proofs.Range.{clash, holds-passes, not-fails, holds-parts, fails-left}
-use Rattle.vocabulary.proofs.Refusal.{refusal-is, refusal-none, standing-clear}
-use Rattle.vocabulary.proofs.Outcome.{refused-as, accepted-does}
-use Rattle.hd153108.specs.Hd153108.{Chip, Table, colour, overlay, tableOf, isOff, selected, shownTable}
-use Rattle.hd153108.specs.Hd153108.{shownEntry, colourAt, shown, ranges, pixelRanges, short, pixelRefusals, pixelOr}
-use Rattle.hd153108.proofs.Access.{tried, known, stops}
+use Rattle.vocabulary.specs.Outcome.{Outcome, accepting, refusing}
+use Rattle.vocabulary.proofs.Range.{clash, holds-passes, not-fails, holds-parts, fails-right}
+use Rattle.vocabulary.proofs.Call.{tried-first, stops, goes-on}
+use Rattle.hd153108.specs.declared.State.{State}
+use Rattle.hd153108.specs.Hd153108.{Chip, chip, Table, colour, overlay, tableOf, isOff, masked, selected, shownTable}
+use Rattle.hd153108.specs.Hd153108.{shownEntry, colourAt, shown, ranges, short, outside, InRange, pixelRanges}
+use Rattle.hd153108.specs.Hd153108.{pixelRefusals, pixelPart, pixels, called}
+use Rattle.hd153108.proofs.InRange.{not-short, ranges-hold}
+use Rattle.hd153108.proofs.Access.{tried, known}
+use Rattle.hd153108.proofs.Lent.{told, pixel-lent}
+use Rattle.hd153108.proofs.Masks.{masked-fits}
 use Rattle.hd153108_shown.specs.declared.Pick.{Pick}
 use Rattle.hd153108_shown.specs.declared.Pick.the-variants.{Colour, Overlay, Refused}
 use Rattle.hd153108_shown.specs.Picked.{isColour, meaning, Inside, Picked}
-use Rattle.hd153108.proofs.Masks.{masked-fits}
 
 is-colour : (t : Table) → isColour t ≡ true → t ≡ colour
 is-colour colour e = refl
@@ -32,93 +34,84 @@ is-overlay overlay e = refl
 is-overlay colour e = clash e
 
 module _ (enable number byte : ℕ) (c : Chip) where
-  -- refused by what every call tries first
-  pub picked-first : {n : ℕ} → n ≡ tried c → (n ≡ 0 → ⊥) → Picked enable number byte c (Refused n)
-  unfolding pixelOr
-  picked-first e h = record {
-    means = λ none. stops c none (pixelRefusals enable number c) _ e h refl (fails-left _ _);
+  -- refused for the enable or the number
+  outside-refused : InRange c → (Holds (pixelRanges enable number) → ⊥) → Picked enable number byte c (Refused 9)
+  unfolding pixelPart
+  outside-refused g h = record {
+    means =
+        stops (pixelRefusals enable number c) 0 [] _ (lentLength ∷ []) outOfRange 8 _ refl refl (not-short c g, tt)
+        (not-fails _ (λ f. h (holds-parts (pixelRanges enable number) (ranges c) f .0)));
     inside = tt;
   }
 
-  module _ (clear : tried c ≡ 0) where
-    lent : short c ≡ false
-    lent = standing-clear _ _ clear .0
+  -- the table's entry, and its part
+  shows : InRange c → enable < 2 → number < 4 → (t : Table) → shownTable enable number (c .state) ≡ t
+      → accepting 0 0 (colourAt (shownEntry t number byte (c .state)) (tableOf t c)) ≡ pixelPart enable number byte c
+  unfolding pixelPart shown
+  shows g e n t h =
+      rw (sym h)
+      (goes-on (pixelRefusals enable number c) 0 [] _
+      (not-short c g, (holds-passes (pixelRanges enable number ++ ranges c) (e, (n, ranges-hold c g)), tt)))
 
-    -- refused for the enable or the number
-    pub picked-outside : (Holds (pixelRanges enable number) → ⊥) → Picked enable number byte c (Refused 9)
-    unfolding pixelOr
-    picked-outside h =
-        let outside = not-fails (ranges (c .state) ++ pixelRanges enable number)
-        (λ g. h (holds-parts (ranges (c .state)) (pixelRanges enable number) g .1)) in
-        record {
-          means = λ none. sym (refused-as 8 0 none _
-              (refusal-is (pixelRefusals enable number c) (lentLength ∷ []) outOfRange _ refl (lent, tt) outside));
-          inside = tt;
-        }
-
-    module _ (e : enable < 2) (n : number < 4) where
-      accepts : refusalOf (pixelRefusals enable number c) ≡ 0
-      accepts =
-          let g = known c clear in
-          refusal-none (pixelRefusals enable number c)
-          (lent, (holds-passes (ranges (c .state) ++ pixelRanges enable number) (omega arith), tt))
-
-      -- the table's entry, and its part
-      shows : (t : Table) → shownTable enable number (c .state) ≡ t → (none : List ℕ)
-          → accepting 0 0 (colourAt (shownEntry t number byte (c .state)) (tableOf t c))
-          ≡ pixelOr none enable number byte c
-      unfolding pixelOr shown
-      shows t h none = sym (accepted-does 0 none _ accepts ∙ rw h)
-
-      pub picked-colour : (i : ℕ) → isColour (shownTable enable number (c .state)) ≡ true
-          → i ≡ shownEntry colour number byte (c .state) → Picked enable number byte c (Colour i)
-      unfolding shownEntry
-      picked-colour i h p = record {
-        means = λ none. rw p (shows colour (is-colour _ h) none);
-        inside = omega (
-          arith,
-          known c clear,
-          masked-fits 8 (isOff (c .state .clock)) (c .state .readmask) (c .state .blinkmask) byte,
-        );
+-- the decision's five ends
+module _ (enable number byte : ℕ) (s : State) (cs os : List ℕ) {n : ℕ} (e : n ≡ tried (chip s cs os)) where
+  -- refused by what every call tries first
+  pub picked-first : (n ≡ 0 → ⊥) → Picked enable number byte (chip s cs os) (Refused n)
+  unfolding pixelPart
+  picked-first h =
+      let c = chip s cs os in
+      record {
+        means =
+            tried-first (pixelRefusals enable number c) 0 [] _ (short c) (outside c) n refl
+            (fails-right (pixelRanges enable number) (ranges c)) e h;
+        inside = tt;
       }
 
-      pub picked-overlay : (i : ℕ) → isColour (shownTable enable number (c .state)) ≡ false
-          → i ≡ shownEntry overlay number byte (c .state) → Picked enable number byte c (Overlay i)
+  module _ (clear : n ≡ 0) where
+    abbrev fine : InRange (chip s cs os)
+    fine = known _ (sym e ∙ clear)
+
+    pub picked-enable : 2 ≤ enable → Picked enable number byte (chip s cs os) (Refused 9)
+    picked-enable h = outside-refused enable number byte _ fine (λ g. omega arith)
+
+    pub picked-number : 4 ≤ number → Picked enable number byte (chip s cs os) (Refused 9)
+    picked-number h = outside-refused enable number byte _ fine (λ g. omega arith)
+
+    module _ (i : ℕ) {b off : Bool} {m : ℕ} (low : enable < 2) (few : number < 4)
+        (test : b ≡ isColour (shownTable enable number s)) (blink : off ≡ isOff (s .clock)) (is : i ≡ m) where
+      pub picked-colour : b ≡ true → m ≡ masked 8 off (s .readmask) (s .blinkmask) byte
+          → Picked enable number byte (chip s cs os) (Colour i)
       unfolding shownEntry
-      picked-overlay i h p = record {
-        means = λ none. rw p (shows overlay (is-overlay _ h) none);
-        inside = omega (
-          arith,
-          known c clear,
-          masked-fits 2 (isOff (c .state .clock)) (c .state .control) (c .state .control / 4) number,
-        );
-      }
+      picked-colour h p =
+          let entry : i ≡ shownEntry colour number byte s = is ∙ (p ∙ rw blink) in
+          record {
+            means = rw entry (shows enable number byte _ fine low few colour (is-colour _ (sym test ∙ h)));
+            inside = omega (arith, fine .colours, masked-fits 8 (isOff (s .clock)) (s .readmask) (s .blinkmask) byte);
+          }
 
--- what is known of a pick that is q
-module _ {enable number byte : ℕ} {c : Chip} {p q : Pick} (known : Picked enable number byte c p) (e : p ≡ q) where
-  pub means-as : (none : List ℕ) → meaning none c q ≡ pixelOr none enable number byte c
-  means-as none = rw e at (known .means none)
+      pub picked-overlay : b ≡ false → m ≡ masked 2 off (s .control) (s .control / 4) number
+          → Picked enable number byte (chip s cs os) (Overlay i)
+      unfolding shownEntry
+      picked-overlay h p =
+          let entry : i ≡ shownEntry overlay number byte s = is ∙ (p ∙ rw blink) in
+          record {
+            means = rw entry (shows enable number byte _ fine low few overlay (is-overlay _ (sym test ∙ h)));
+            inside = omega (arith, fine .overlays, masked-fits 2 (isOff (s .clock)) (s .control) (s .control / 4) number);
+          }
 
-  pub refusal-as : meaning [] c q .refusal ≡ pixelOr [] enable number byte c .refusal
-  refusal-as = ap (λ (o : Outcome (List ℕ)). o .refusal) (means-as [])
+-- what is known of a decision that is q: the part, the refusal, the pixel's outcome
+module _ {enable number byte : ℕ} {c : Chip} {p q : Pick} (k : Picked enable number byte c p) (e : p ≡ q) where
+  means-as : meaning c q ≡ pixelPart enable number byte c
+  means-as = rw e at (k .means)
 
-  pub part-as : meaning [] c q .left ≡ pixelOr [] enable number byte c .left
-  part-as = ap (λ (o : Outcome (List ℕ)). o .left) (means-as [])
+  pub part-as : meaning c q .left ≡ pixelPart enable number byte c .left
+  part-as = ap (λ (o : Outcome (List ℕ)). o .left) means-as
+
+  pub told-as : told (meaning c q) c ≡ called (pixels enable number byte) c
+  told-as = ap (λ (o : Outcome (List ℕ)). told o c) means-as ∙ sym (pixel-lent enable number byte c)
 
   pub inside-as : Inside c q
-  inside-as = rw e at (known .inside)
-
--- a part of three bytes
-pub three : (n : ℕ) → n + 3 - n ≡ 3
-three n = omega arith
-
-pub bytes-at : (e : ℕ) (t : List ℕ) → 3 * e + 3 ≤ length t
-    → getD t (3 * e) 0 ∷ getD t (3 * e + 1) 0 ∷ getD t (3 * e + 2) 0 ∷ [] ≡ colourAt e t
-bytes-at e t h =
-    let a = drop-cons t (3 * e) 0 (omega arith) in
-    let b = drop-cons t (suc (3 * e)) 0 (omega arith) in
-    let d = drop-cons t (suc (suc (3 * e))) 0 (omega arith) in
-    rw (add-one, add-two, a, b, d)
+  inside-as = rw e at (k .inside)
 
 -- the number's test, where b6 is 1
 pub none-on : (enable b6 number : ℕ) → (enable ≡ 0 → ⊥) → (b6 ≡ 0 → ⊥)

@@ -2,10 +2,10 @@
 use Prim.Native.Nat.{ℕ, _+_, _*_, _≤_}
 use mathlib.Core.Path.{_≡_}
 use mathlib.Core.Bool.{Bool, true, false}
-use mathlib.Core.List.{List}
+use mathlib.Core.List.{List, []}
 use lib.ListN.{length}
 use Rattle.vocabulary.specs.Outcome.{Outcome, accepting, refusing}
-use Rattle.hd153108.specs.Hd153108.{Chip, Table, colour, overlay, colourAt, pixelOr}
+use Rattle.hd153108.specs.Hd153108.{Chip, Table, colour, overlay, colourAt, pixelPart}
 use Rattle.hd153108_shown.specs.declared.Pick.{Pick}
 use Rattle.hd153108_shown.specs.declared.Pick.the-variants.{Colour, Overlay, Refused}
 
@@ -13,11 +13,11 @@ abbrev pub isColour : Table → Bool
 isColour colour = true
 isColour overlay = false
 
--- each answer as document 01's number and the three bytes; where refused, the number and no byte, or those of `none`
-abbrev pub meaning : List ℕ → Chip → Pick → Outcome (List ℕ)
-meaning none c (Colour e) = accepting 0 0 (colourAt e (c .colours))
-meaning none c (Overlay e) = accepting 0 0 (colourAt e (c .overlays))
-meaning none c (Refused n) = refusing n 0 none
+-- each answer as document 01's number and the three bytes; where refused, the number and no byte
+abbrev pub meaning : Chip → Pick → Outcome (List ℕ)
+meaning c (Colour e) = accepting 0 0 (colourAt e (c .colours))
+meaning c (Overlay e) = accepting 0 0 (colourAt e (c .overlays))
+meaning c (Refused n) = refusing n 0 []
 
 -- the entry lies in its table
 abbrev pub Inside : Chip → Pick → Type 0
@@ -26,5 +26,5 @@ Inside c (Overlay e) = 3 * e + 3 ≤ length (c .overlays)
 Inside c (Refused n) = Unit
 
 pub record Picked (enable number byte : ℕ) (c : Chip) (p : Pick) : Type 0 where
-  pub means : (none : List ℕ) → meaning none c p ≡ pixelOr none enable number byte c
+  pub means : meaning c p ≡ pixelPart enable number byte c
   pub inside : Inside c p

@@ -1,6 +1,6 @@
 // The HD153108's pixel selection (chip A): masks, blink, and which entry of which table shows.
 //
-// Source document 003, Table 4 and Internal Registers, with document 01's rulings, decides; the rule is `pixelOr` of
+// Source document 003, Table 4 and Internal Registers, with document 01's rulings, decides; the rule is `pixelPart` of
 // hd153108's specs/Hd153108.antt, and what a decision means is specs/Picked.antt. Not modelled: analogue output,
 // blanking, pipeline delay.
 use hd153108::State;

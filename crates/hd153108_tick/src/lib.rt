@@ -1,16 +1,11 @@
-// The HD153108's calls that are lent no table (chip A): the reset, and the blink clock's step and tick.
+// The HD153108's blink clock (chip A): a tick by value, and on a lent clock.
 //
-// Source document 003, Tables 5.1 and 5.2, with document 01's rulings, decides; the rules are `reset` and `tick` of
-// hd153108's specs/Hd153108.antt. Not modelled: as there.
-use hd153108::Answer;
+// Source document 003, Tables 5.1 and 5.2, with document 01's rulings, decides; the rule is `tick` of hd153108's
+// specs/Hd153108.antt, which is `called` of `ticks` on the chip that has the clock (`tick-lent`). Not modelled: as there.
 use hd153108::Clock;
-use hd153108::State;
-use hd153108_port::accepted;
 use hd153108_port::period_of;
-use hd153108_port::port;
-use hd153108_port::registers;
 ghost use mathlib.Core.Path.{_≡_};
-ghost use Rattle.hd153108.specs.Hd153108.{clock, reset, tick, stateOutcome, clockOutcome};
+ghost use Rattle.hd153108.specs.Hd153108.{clock, tick, clockOutcome};
 
 // What a blink step answers.
 #[repr(C)]
@@ -23,19 +18,6 @@ pub struct ClockAnswer {
 struct Next {
     position: u8,
     refusal: u8,
-}
-
-// A reset, from any state at all; the tables are kept.
-#[no_mangle]
-pub extern "C" fn zk_a_reset(s: State) -> Answer
-    ensures { λ r. ⌜ stateOutcome r ≡ reset s ⌝ }
-{
-    let stopped = Clock {
-        timing: 0,
-        position: 0,
-    };
-    let zeroed = port(s, 0, 0, 0, 0);
-    accepted(0, registers(zeroed, 0, 0, 0, stopped))
 }
 
 // One tick more, on numbers.

@@ -1,7 +1,7 @@
 // The HD153108's write access (chip A): the address, the data of either table, the registers.
 //
 // Source document 003, Register Mapping, Access to CLT/OLT and Internal Registers, with document 01's rulings, decides;
-// the rule is `write` of hd153108's specs/Hd153108.antt. Not modelled: as there.
+// the rule is `called` of `writes` in hd153108's specs/Hd153108.antt. Not modelled: as there.
 use hd153108::Answer;
 use hd153108::Clock;
 use hd153108::State;
@@ -15,7 +15,8 @@ use hd153108_port::standing;
 ghost use mathlib.Core.Path.{_≡_};
 ghost use Prim.Native.Nat.{_+_, _*_, _≤_};
 ghost use lib.ListN.{length};
-ghost use Rattle.hd153108.specs.Hd153108.{chip, componentAt, put, stepped, latched, stored, write, outcome};
+ghost use Rattle.vocabulary.specs.Component.{componentAt, put};
+ghost use Rattle.hd153108.specs.Hd153108.{chip, stepped, latched, stored, outcome, writes, called};
 
 // A colour into a table.
 fn put_colour(t: &mut [u8], e: usize, r: u8, g: u8, b: u8)
@@ -55,7 +56,7 @@ pub extern "C" fn zk_a_write(
     overlays: &mut [u8],
 ) -> Answer
     ensures { λ r. ⌜ outcome r (now (colours .exit)) (now (overlays .exit))
-        ≡ write select byte (chip s (now (colours .entry)) (now (overlays .entry))) ⌝ }
+        ≡ called (writes select byte) (chip s (now (colours .entry)) (now (overlays .entry))) ⌝ }
 {
     let refusal = standing(s, colours.len(), overlays.len());
     if refusal != 0 {

@@ -3,9 +3,6 @@ use borrow.Author.Needs.{needs}
 use Rattle.hd153108_port.proofs.blink_off.Statement.{statement}
 use Rattle.hd153108_port.proofs.blink_off.Tie as tie
 
-returns : tie.Need-returns
-unfolding isOff
-returns c = rw (c .before .on-time .ensures)
-
 pub blink-off-spec : {M : Type 1} → statement M
-blink-off-spec = tie.close (tie.spec (λ c κs. search needs) returns)
+unfolding isOff
+blink-off-spec = tie.close (tie.spec (λ c κs. search needs) (λ c. rw (c .before .on-time .ensures)))

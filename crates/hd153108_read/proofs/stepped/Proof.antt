@@ -4,25 +4,14 @@ use borrow.Author.Needs.{needs}
 use Rattle.hd153108_read.proofs.stepped.Statement.{statement}
 use Rattle.hd153108_read.proofs.stepped.Tie as tie
 
-returns : tie.Need-returns
-unfolding stepped
-returns c = rw (is-red _ (c .before .match .keys1)) (c .port .ensures)
-
-returns-2 : tie.Need-returns-2
-unfolding stepped
-returns-2 c = rw (is-green _ (c .before .match .keys2)) (c .port2 .ensures)
-
-returns-3 : tie.Need-returns-3
-unfolding stepped
-returns-3 c = rw (is-blue _ (c .before .match .rest)) (c .port3 .ensures)
-
 pub stepped-spec : {M : Type 1} → statement M
+unfolding stepped
 stepped-spec =
     tie.close
     (tie.spec
     (λ c κs. search needs)
     (λ c κs. search needs)
     (λ c κs. search needs)
-    returns
-    returns-2
-    returns-3)
+    (λ c. rw (is-red _ (c .before .match .keys1)) (search needs))
+    (λ c. rw (is-green _ (c .before .match .keys2)) (search needs))
+    (λ c. let ((_, r), g) = c .before .match .rest in rw (is-blue _ r g) (search needs)))
