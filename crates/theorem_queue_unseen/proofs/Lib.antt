@@ -1,10 +1,6 @@
-pub mod Range
 pub mod Settled
-pub mod Calls
 pub mod Shown
 pub mod Unseen
-pub mod Blanking
-pub mod Kept
 pub mod Accepting
 pub mod Fill
 pub mod Premises
