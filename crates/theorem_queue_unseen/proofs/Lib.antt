@@ -1,0 +1,6 @@
+pub mod Settled
+pub mod Shown
+pub mod Unseen
+pub mod Accepting
+pub mod Fill
+pub mod Premises
