@@ -11,10 +11,10 @@ use Rattle.ms622424.specs.Ms622424.{revision, initialization, none, registerAt,
 use Rattle.ms622424.specs.Ms622424.{writeRefusals, write, readRefusals, read, blankRefusals, blank, pixelRefusals}
 use Rattle.ms622424.specs.Ms622424.{pixel, syncRefusals, sync, resetRefusals, reset, outcome, showing}
 use Rattle.ms622424_pixel.proofs.Outputs.{showing-once}
-use Rattle.claims.specs.Judged.{Judged}
-use Rattle.claims.specs.Determined.{Determined, DeterminedOf, Bytes}
-use Rattle.claims.proofs.Judged.{judged}
-use Rattle.claims.proofs.Determined.{determined}
+use Rattle.vocabulary.specs.Judged.{Judged}
+use Rattle.theorem_claims.specs.Determined.{Determined, DeterminedOf, Bytes}
+use Rattle.vocabulary.proofs.Judged.{judged}
+use Rattle.theorem_claims.proofs.Determined.{determined}
 
 -- ---- judged: what an access does where no refusal stands is no refusal
 accepts : (r : Register) (byte : ℕ) (c : Chip) → (written r byte c .refusal ≡ 0) × (answers r c .refusal ≡ 0)

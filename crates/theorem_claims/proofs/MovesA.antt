@@ -10,7 +10,7 @@ use Rattle.hd153108.specs.Hd153108.{overlayControl, blinkTiming, Table, colour,
 use Rattle.hd153108.specs.Hd153108.{red, green, blue, stepped, latched, stored, dataWrite, written, moved}
 use Rattle.hd153108.specs.Hd153108.{withState, withTable, write, read}
 use Rattle.hd153108.proofs.Keep.{SameTables}
-use Rattle.claims.specs.MovesA.{WriteLeaves, ReadLeaves}
+use Rattle.theorem_claims.specs.MovesA.{WriteLeaves, ReadLeaves}
 
 -- ---- as it was
 kept-by-write : (r : Register) (c : Chip) → WriteLeaves r c c

@@ -10,7 +10,7 @@ use Rattle.ms622424.specs.Ms622424.{Chip, Register, addressLow, addressHigh, pa
 use Rattle.ms622424.specs.Ms622424.{revision, initialization, none, registerAt, Colour, selected, stepped, places}
 use Rattle.ms622424.specs.Ms622424.{bufferStepped, complete, Moves, moveOldest, oneSlot, moves, roomMade, latched}
 use Rattle.ms622424.specs.Ms622424.{withState, written, answers, write, read, blank, pixel, sync}
-use Rattle.claims.specs.MovesB.{withQueue, QueueAlone, withPalette, PlaceAlone, WriteLeaves, ReadLeaves}
+use Rattle.theorem_claims.specs.MovesB.{withQueue, QueueAlone, withPalette, PlaceAlone, WriteLeaves, ReadLeaves}
 
 -- ---- as it was
 kept-by-write : (r : Register) (c : Chip) → WriteLeaves r c c

@@ -11,8 +11,8 @@ use Rattle.rgb640.specs.Rgb640.{Space, updateControl, paletteWrite, paletteRead
 use Rattle.rgb640.specs.Rgb640.{Port, indexLow, indexHigh, indexData, otherPort, portOf, Direction, writing, reading}
 use Rattle.rgb640.specs.Rgb640.{Component, red, green, blue, component, bitFor, taken, paletteWritten, dataWritten}
 use Rattle.rgb640.specs.Rgb640.{written, dataRead, readOut, access, write, read, reset}
-use Rattle.claims.specs.MovesC.{withPalette, PlaceAlone, DataWriteLeaves, WriteLeaves, DataReadLeaves}
-use Rattle.claims.specs.MovesC.{ReadLeaves}
+use Rattle.theorem_claims.specs.MovesC.{withPalette, PlaceAlone, DataWriteLeaves, WriteLeaves, DataReadLeaves}
+use Rattle.theorem_claims.specs.MovesC.{ReadLeaves}
 
 -- ---- as it was
 kept-by-data : (space : Space) (c : Chip) → DataWriteLeaves space c c × DataReadLeaves space c c

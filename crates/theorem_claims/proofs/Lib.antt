@@ -1,5 +1,4 @@
 pub mod Edges
-pub mod Judged
 pub mod Determined
 pub mod CallsA
 pub mod CallsB

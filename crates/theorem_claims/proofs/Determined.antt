@@ -3,7 +3,7 @@
 use mathlib.Core.Path.{_≡_, sym, ap, _∙_}
 use Rattle.vocabulary.proofs.Reply.{decoded-once}
 use Rattle.vocabulary.specs.Reply.{Reply, decoded}
-use Rattle.claims.specs.Determined.{DeterminedOf, Determined}
+use Rattle.theorem_claims.specs.Determined.{DeterminedOf, Determined}
 
 module _ {A C : Type 0} (says : A → C) (back : C → A) where
   -- read back, for the answers that the type holds

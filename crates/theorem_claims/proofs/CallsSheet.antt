@@ -14,11 +14,11 @@ use Rattle.sheet.specs.declared.Answer.{Answer}
 use Rattle.sheet.specs.declared.Answer.the-variants.{Done, Refused}
 use Rattle.sheet.specs.Sheet.{sheetOf, badLine, writeRefusals, write, outcome, Heard, heard, telling}
 use Rattle.calls.specs.Calls.{callRefusals, sheetToCalls}
-use Rattle.claims.specs.Judged.{Judged}
-use Rattle.claims.specs.Determined.{Determined, Numbered}
-use Rattle.claims.proofs.Judged.{judged}
-use Rattle.claims.proofs.Counts.{Counts, text-counts, calls-count}
-use Rattle.claims.proofs.Determined.{determined, determined-of, number-determined}
+use Rattle.vocabulary.specs.Judged.{Judged}
+use Rattle.theorem_claims.specs.Determined.{Determined, Numbered}
+use Rattle.vocabulary.proofs.Judged.{judged}
+use Rattle.theorem_claims.proofs.Counts.{Counts, text-counts, calls-count}
+use Rattle.theorem_claims.proofs.Determined.{determined, determined-of, number-determined}
 
 -- ---- judged
 pub expansion-judged : (w v : ℕ) → Judged (refusals w v) 0 tt (expansion w v)

@@ -17,7 +17,7 @@ use Rattle.ms622424.specs.Ms622424.{Chip, chip, Sound, every, inMap, isZero, un
 use Rattle.ms622424.specs.Ms622424.{registerAt, readable, answers, activeLow, mark, statusByte, resetRefusals, reset}
 use Rattle.ms622424.proofs.Read.{read-does}
 use Rattle.ms622424_unseen.proofs.Kept.{sound-fresh}
-use Rattle.claims.specs.Edges.{Answers, Fresh, Status, Edges}
+use Rattle.theorem_claims.specs.Edges.{Answers, Fresh, Status, Edges}
 
 -- the status byte at counter 0, of command bit 4 and how many wait
 statusOf : ℕ → ℕ → ℕ
