@@ -1,16 +1,15 @@
 -- Laws of the pixel rule: which refusal, and which entry shows, as the code knows it, so that a search closes its walk;
 -- then what whoever is given the decision knows. Assumes nothing.
-use Prim.Native.Nat.{ℕ, zero, suc, _+_, _*_, _-_, _/_, _≤_, _<_}
+use Prim.Native.Nat.{ℕ, zero, suc, _/_, _≤_, _<_}
 use mathlib.Core.Path.{_≡_, refl, sym, ap, _∙_}
 use mathlib.Core.List.{List, [], _∷_, _++_}
 use mathlib.Core.Bool.{Bool, true, false}
 use native.Mathlib.Omega.{arith}
 use lib.Dec.{eqb}
-use lib.ListN.{length, take, drop}
 use borrow.Author.Tests.{ne-eqb}
 use Rattle.vocabulary.specs.Range.{Holds}
-use Rattle.vocabulary.specs.Refusal.{lentLength, outOfRange, refusalOf}
-use Rattle.vocabulary.specs.Outcome.{Outcome, accepting, refusing}
+use Rattle.vocabulary.specs.Refusal.{lentLength, outOfRange}
+use Rattle.vocabulary.specs.Outcome.{Outcome, accepting}
 use Rattle.vocabulary.proofs.Range.{clash, holds-passes, not-fails, holds-parts, fails-right}
 use Rattle.vocabulary.proofs.Call.{tried-first, stops, goes-on}
 use Rattle.hd153108.specs.declared.State.{State}
@@ -113,16 +112,24 @@ module _ {enable number byte : ℕ} {c : Chip} {p q : Pick} (k : Picked enable n
   pub inside-as : Inside c q
   inside-as = rw e at (k .inside)
 
--- the number's test, where b6 is 1
-pub none-on : (enable b6 number : ℕ) → (enable ≡ 0 → ⊥) → (b6 ≡ 0 → ⊥)
+-- the test of the table: without enable; where b6 is 0; where b6 is 1
+module _ (enable b6 number : ℕ) where
+  pub without-enable : enable ≡ 0 → true ≡ isColour (selected enable b6 number)
+  unfolding selected
+  without-enable h = rw h
+
+  pub without-b6 : (enable ≡ 0 → ⊥) → b6 ≡ 0 → false ≡ isColour (selected enable b6 number)
+  unfolding selected
+  without-b6 h k = rw k (off enable h)
+    where
+      off : (n : ℕ) → (n ≡ 0 → ⊥) → false ≡ isColour (selected n 0 number)
+      off zero h = absurd (h refl)
+      off (suc n) h = refl
+
+pub with-b6 : (enable b6 number : ℕ) → (enable ≡ 0 → ⊥) → (b6 ≡ 0 → ⊥)
     → eqb number 0 ≡ isColour (selected enable b6 number)
 unfolding selected
-none-on zero b6 number h k = absurd (h refl)
-none-on (suc enable) zero number h k = absurd (k refl)
-none-on (suc enable) (suc b6) zero h k = refl
-none-on (suc enable) (suc b6) (suc number) h k = ne-eqb (suc number) 0 (λ e. omega arith)
-
-pub never-on : (enable number : ℕ) → (enable ≡ 0 → ⊥) → false ≡ isColour (selected enable 0 number)
-unfolding selected
-never-on zero number h = absurd (h refl)
-never-on (suc enable) number h = refl
+with-b6 zero b6 number h k = absurd (h refl)
+with-b6 (suc enable) zero number h k = absurd (k refl)
+with-b6 (suc enable) (suc b6) zero h k = refl
+with-b6 (suc enable) (suc b6) (suc number) h k = ne-eqb (suc number) 0 (λ e. omega arith)

@@ -69,7 +69,7 @@ pub fn read(s: State, select: u8, colours: &[u8], overlays: &[u8]) -> State {
 
 pub fn reset(s: State) -> State {
     text(b"reset");
-    answer(hd153108_tick::zk_a_reset(s))
+    answer(hd153108_reset::zk_a_reset(s))
 }
 
 pub fn registers(s: State) -> State {

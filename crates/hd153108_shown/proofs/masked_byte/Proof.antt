@@ -5,16 +5,16 @@ use borrow.Author.Needs.{needs}
 use Rattle.hd153108_shown.proofs.masked_byte.Statement.{statement}
 use Rattle.hd153108_shown.proofs.masked_byte.Tie as tie
 
-returns : tie.Need-returns
-returns c =
+pub masked-byte-spec : {M : Type 1} → statement M
+masked-byte-spec =
+    tie.close
+    (tie.spec
+    (λ c. search needs)
+    (λ c.
     let a = c .before .args in
     let on = masked-on 8 0 (a .read) (a .blink) (a .byte) (255 - a .read) (omega arith) (omega arith) in
-    rw (c .if1 .taken, on, masked-off 8 (a .read) (a .blink) (a .byte))
-
-returns-2 : tie.Need-returns-2
-returns-2 c =
+    rw (c .if1 .taken, on, masked-off 8 (a .read) (a .blink) (a .byte)))
+    (λ c. search needs)
+    (λ c.
     let a = c .before .args in
-    rw (c .if1 .left, masked-on 8 0 (a .read) (a .blink) (a .byte) (255 - a .read) (omega arith) (omega arith))
-
-pub masked-byte-spec : {M : Type 1} → statement M
-masked-byte-spec = tie.close (tie.spec (λ c. search needs) returns (λ c. search needs) returns-2)
+    rw (c .if1 .left, masked-on 8 0 (a .read) (a .blink) (a .byte) (255 - a .read) (omega arith) (omega arith))))

@@ -5,17 +5,19 @@ use borrow.Author.Needs.{needs}
 use Rattle.hd153108_shown.proofs.masked_number.Statement.{statement}
 use Rattle.hd153108_shown.proofs.masked_number.Tie as tie
 
-returns : tie.Need-returns
-returns c =
-    let a = c .before .args in
-    let on = masked-on 2 6 (a .control) (a .control / 4) (a .number) (255 - a .control) (omega arith) (omega arith) in
-    rw (c .if1 .taken, on, masked-off 2 (a .control) (a .control / 4) (a .number))
-
-returns-2 : tie.Need-returns-2
-returns-2 c =
-    let a = c .before .args in
-    let on = masked-on 2 6 (a .control) (a .control / 4) (a .number) (255 - a .control) (omega arith) (omega arith) in
-    rw (c .if1 .left, on)
-
 pub masked-number-spec : {M : Type 1} → statement M
-masked-number-spec = tie.close (tie.spec (λ c. search needs) returns (λ c. search needs) returns-2)
+masked-number-spec =
+    tie.close
+    (tie.spec
+    (λ c. search needs)
+    (λ c.
+    let a = c .before .args in
+    let on = masked-on 2 6 (a .control) (a .control / 4) (a .number) (255 - a .control) (omega arith) (omega arith) in
+    rw (c .if1 .taken, on, masked-off 2 (a .control) (a .control / 4) (a .number)))
+    (λ c. search needs)
+    (λ c.
+    let a = c .before .args in
+    rw (
+      c .if1 .left,
+      masked-on 2 6 (a .control) (a .control / 4) (a .number) (255 - a .control) (omega arith) (omega arith),
+    )))
