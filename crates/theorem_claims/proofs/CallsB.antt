@@ -1,99 +1,56 @@
 -- Chip B's calls: each judged by its table, and each determined by its promise. Assumes nothing.
-use Prim.Native.Nat.{ℕ}
-use mathlib.Core.Path.{_≡_, refl, sym, _∙_}
+use Prim.Native.Nat.{ℕ, _/_, _%_}
+use mathlib.Core.Path.{_≡_, refl, ap}
 use mathlib.Core.List.{List}
 use Rattle.vocabulary.specs.Outcome.{Outcome}
-use Rattle.ms622424.specs.declared.State.{State}
-use Rattle.ms622424.specs.declared.Answer.{Answer}
-use Rattle.ms622424.specs.declared.Shown.{Shown}
-use Rattle.ms622424.specs.Ms622424.{Chip, chip, Register, addressLow, addressHigh, palette, command, status, buffer}
-use Rattle.ms622424.specs.Ms622424.{revision, initialization, none, registerAt, written, answers}
-use Rattle.ms622424.specs.Ms622424.{writeRefusals, write, readRefusals, read, blankRefusals, blank, pixelRefusals}
-use Rattle.ms622424.specs.Ms622424.{pixel, syncRefusals, sync, resetRefusals, reset, outcome, showing}
-use Rattle.ms622424_pixel.proofs.Outputs.{showing-once}
 use Rattle.vocabulary.specs.Judged.{Judged}
-use Rattle.theorem_claims.specs.Determined.{Determined, DeterminedOf, Bytes}
-use Rattle.vocabulary.proofs.Judged.{judged}
-use Rattle.theorem_claims.proofs.Determined.{determined}
+use Rattle.vocabulary.proofs.Component.{word-red, word-green, word-blue}
+use Rattle.vocabulary.proofs.Judged.{called-judged}
+use Rattle.ms622424.specs.declared.Shown.{Shown}
+use Rattle.ms622424.specs.Ms622424.{Chip, Call, refusals, does, called, showing}
+use Rattle.ms622424.proofs.Kept.{does-accepts}
+use Rattle.ms622424_places.specs.declared.Answer.{Answer}
+use Rattle.ms622424_places.specs.Places.{Handed, outcome, Does}
+use Rattle.ms622424_places.proofs.Determined as P
+use Rattle.theorem_claims.specs.Determined.{DeterminedOf, Bytes}
+use Rattle.theorem_claims.proofs.Determined.{determined-of}
 
--- ---- judged: what an access does where no refusal stands is no refusal
-accepts : (r : Register) (byte : ℕ) (c : Chip) → (written r byte c .refusal ≡ 0) × (answers r c .refusal ≡ 0)
-unfolding written answers
-accepts addressLow byte c = (refl, refl)
-accepts addressHigh byte c = (refl, refl)
-accepts palette byte c = (refl, refl)
-accepts command byte c = (refl, refl)
-accepts status byte c = (refl, refl)
-accepts buffer byte c = (refl, refl)
-accepts revision byte c = (refl, refl)
-accepts initialization byte c = (refl, refl)
-accepts none byte c = (refl, refl)
+-- ---- judged
+pub called-judged-b : (k : Call) (c : Chip) → Judged (refusals k c) 0 c (called k c)
+called-judged-b k c = called-judged refusals does does-accepts k c
 
-module _ (c : Chip) where
-  pub write-judged : (select byte : ℕ) → Judged (writeRefusals select byte c) 0 c (write select byte c)
-  unfolding write
-  write-judged select byte = judged (writeRefusals select byte c) 0 c _ (accepts (registerAt select) byte c .0)
-
-  pub read-judged : (select : ℕ) → Judged (readRefusals select c) 0 c (read select c)
-  unfolding read
-  read-judged select = judged (readRefusals select c) 0 c _ (accepts (registerAt select) 0 c .1)
-
-  pub blank-judged : (slots : ℕ) → Judged (blankRefusals slots c) 0 c (blank slots c)
-  unfolding blank
-  blank-judged slots = judged (blankRefusals slots c) 0 c _ refl
-
-  pub pixel-judged : (mode word : ℕ) → Judged (pixelRefusals mode word c) 0 c (pixel mode word c)
-  unfolding pixel
-  pixel-judged mode word = judged (pixelRefusals mode word c) 0 c _ refl
-
-  pub sync-judged : (signals : ℕ) → Judged (syncRefusals signals c) 0 c (sync signals c)
-  unfolding sync
-  sync-judged signals = judged (syncRefusals signals c) 0 c _ refl
-
-  pub reset-judged : Judged (resetRefusals c) 0 c (reset c)
-  unfolding reset
-  reset-judged = judged (resetRefusals c) 0 c _ refl
-
--- ---- determined: the answer, and the queue and the map where they are lent to be changed
-answerOf : Outcome Chip → Answer
+-- ---- determined: the answer, the queue and the map, of whatever call, by the promise of its places
+answerOf : Outcome Handed → Answer
 answerOf o = record { refusal = o .refusal; value = o .value; count = o .count; state = o .left .state }
 
--- calls that are lent queue and map to change, whatever outcome they promise
-abbrev pub Changed : Outcome Chip → Type 0
-Changed d = Determined {A = Answer × List ℕ × List ℕ} (λ x. outcome (x .0) (x .1) (x .2)) d
+-- what a caller sees of an outcome
+abbrev Saw : Type 0
+Saw = Answer × List ℕ × List ℕ
 
-changed : (d : Outcome Chip) → Changed d
-unfolding answerOf
-changed d = determined _ (λ o. (answerOf o, o .left .queue, o .left .map)) (λ x. refl) d
+sawOf : Outcome Handed → Saw
+sawOf o = (answerOf o, o .left .queue, o .left .map)
 
-module _ (s : State) (queue map : List ℕ) where
-  -- calls that hand back an answer alone
-  abbrev pub Answered : Outcome Chip → Type 0
-  Answered d = Determined (λ (a : Answer). outcome a queue map) d
+pub changed : (k : Call) (h : Handed) (a b : Answer) (q q' m m' : List ℕ) → Does h (outcome a q m) (called k)
+    → Does h (outcome b q' m') (called k) → _≡_ {A = Saw} (a, q, m) (b, q', m')
+unfolding sawOf answerOf
+changed k h a b q q' m m' d e = ap sawOf (P.determined k h (outcome a q m) (outcome b q' m') d e)
 
-  answered : (d : Outcome Chip) → Answered d
-  unfolding answerOf
-  answered d = determined _ answerOf (λ a. refl) d
+-- a pixel's answer, by its three bytes
+shownOf : Outcome Chip → Shown
+shownOf o = record {
+  refusal = o .refusal;
+  red = o .value % 256;
+  green = o .value / 256 % 256;
+  blue = o .value / 65536;
+}
 
-  pub write-determined : (select byte : ℕ) → Changed (write select byte (chip s queue map))
-  write-determined select byte = changed _
+shown-back : (c : Chip) (a : Shown) → Bytes (a .red) (a .green) (a .blue) → shownOf (showing a c) ≡ a
+unfolding shownOf
+shown-back c a h =
+    rw (word-red (a .red) (a .green) (a .blue) (h .red) (h .green),
+    word-green (a .red) (a .green) (a .blue) (h .red) (h .green),
+    word-blue (a .red) (a .green) (a .blue) (h .red) (h .green)) refl
 
-  pub blank-determined : (slots : ℕ) → Changed (blank slots (chip s queue map))
-  blank-determined slots = changed _
-
-  pub read-determined : (select : ℕ) → Answered (read select (chip s queue map))
-  read-determined select = answered _
-
-  -- at any map beside it: it is lent none
-  pub sync-determined : (signals : ℕ) → Answered (sync signals (chip s queue map))
-  sync-determined signals = answered _
-
-  pub reset-determined :
-      Determined {A = Answer × List ℕ} (λ x. outcome (x .0) (x .1) map) (reset (chip s queue map))
-  unfolding answerOf
-  reset-determined = determined _ (λ o. (answerOf o, o .left .queue)) (λ x. refl) _
-
-  pub pixel-determined : (mode word : ℕ)
-      → DeterminedOf Bytes (λ (a : Shown). showing a (chip s queue map)) (pixel mode word (chip s queue map))
-  pixel-determined mode word a b ha hb e f =
-      showing-once a b (chip s queue map) (ha .0) (ha .1) (ha .2) (hb .0) (hb .1) (hb .2) (e ∙ sym f)
+pub pixel-determined : (c : Chip) (d : Outcome Chip)
+    → DeterminedOf (λ (a : Shown). Bytes (a .red) (a .green) (a .blue)) (λ (a : Shown). showing a c) d
+pixel-determined c d = determined-of _ shownOf _ (shown-back c) d

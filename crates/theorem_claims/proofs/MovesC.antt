@@ -1,107 +1,119 @@
 -- Chip C: an access of a port leaves the rest, and which reads move. Assumes nothing.
 use Prim.Native.Nat.{ℕ}
-use mathlib.Core.Path.{_≡_, refl, sym, ap, subst}
+use mathlib.Core.Path.{_≡_, refl, sym, ap, subst, _∙_}
 use mathlib.Core.List.{List}
+use native.Mathlib.Omega.{arith}
 use Rattle.vocabulary.proofs.Choice.{cases, picks-first, picks-second}
-use Rattle.vocabulary.proofs.Outcome.{left-holds}
-use Rattle.expand.specs.Expand.{ten}
+use Rattle.vocabulary.proofs.Face.{called-holds}
 use Rattle.rgb640.specs.declared.State.{State}
-use Rattle.rgb640.specs.Rgb640.{Chip, chip, at, next, prepared, increments, restarted, moved}
-use Rattle.rgb640.specs.Rgb640.{Space, updateControl, paletteWrite, paletteRead, unnamed, spaceOf}
-use Rattle.rgb640.specs.Rgb640.{Port, indexLow, indexHigh, indexData, otherPort, portOf, Direction, writing, reading}
-use Rattle.rgb640.specs.Rgb640.{Component, red, green, blue, component, bitFor, taken, paletteWritten, dataWritten}
-use Rattle.rgb640.specs.Rgb640.{written, dataRead, readOut, access, write, read, reset}
-use Rattle.theorem_claims.specs.MovesC.{withPalette, PlaceAlone, DataWriteLeaves, WriteLeaves, DataReadLeaves}
-use Rattle.theorem_claims.specs.MovesC.{ReadLeaves}
+use Rattle.rgb640.specs.Rgb640.{Chip, chip, at, next, increments, Direction, writing, reading, state}
+use Rattle.rgb640.specs.Rgb640.{Transfer, threeBytes, follows, restarted, stepped, taken, paletteTaken, paletteTold}
+use Rattle.rgb640.specs.Rgb640.{fetchesNothing, fetchesEntry, Space, updateControl, paletteWrite, paletteRead}
+use Rattle.rgb640.specs.Rgb640.{nowhere, spaceOf, Register, indexLow, indexHigh, indexData, notServed, registerAt}
+use Rattle.rgb640.specs.Rgb640.{dataWritten, written, dataRead, answers, writes, reads, refusals, does, called}
+use Rattle.rgb640.proofs.Index.{space-holds}
+use Rattle.theorem_claims.specs.MovesC.{PlaceAlone, PaletteAlone, RegisterAlone, DataWriteLeaves}
+use Rattle.theorem_claims.specs.MovesC.{DataReadLeaves, WriteLeaves, ReadLeaves}
 
 -- ---- as it was
-kept-by-data : (space : Space) (c : Chip) → DataWriteLeaves space c c × DataReadLeaves space c c
-kept-by-data updateControl c = (refl, refl)
-kept-by-data paletteWrite c = (refl, refl)
-kept-by-data paletteRead c = (refl, refl)
-kept-by-data unnamed c = (refl, refl)
+kept-by-write : (r : Register) (c : Chip) → WriteLeaves r c c
+kept-by-write indexLow c = refl
+kept-by-write indexHigh c = refl
+kept-by-write indexData c = record { register = λ e. refl; elsewhere = λ e. refl }
+kept-by-write notServed c = refl
 
-kept-by-access : (p : Port) (c : Chip) → WriteLeaves p c c × ReadLeaves p c c
-kept-by-access indexLow c = (refl, refl)
-kept-by-access indexHigh c = (refl, refl)
-kept-by-access indexData c = kept-by-data (spaceOf (c .state .index)) c
-kept-by-access otherPort c = (refl, refl)
+kept-by-read : (r : Register) (c : Chip) → ReadLeaves r c c
+kept-by-read indexLow c = refl
+kept-by-read indexHigh c = refl
+kept-by-read indexData c = record { register = λ e. refl; elsewhere = refl }
+kept-by-read notServed c = refl
 
 -- ---- the order, and the fetch: index, place and fetched entry
 module _ (s : State) (t : List ℕ) where
-  prepared-leaves : (space : Space) (i p : ℕ) → PlaceAlone (chip s t) (chip (prepared space t (at s i p)) t)
-  unfolding prepared
-  prepared-leaves updateControl i p = refl
-  prepared-leaves paletteWrite i p = refl
-  prepared-leaves paletteRead i p = refl
-  prepared-leaves unnamed i p = refl
+  abbrev Moves : State → Type 0
+  Moves n = PlaceAlone (chip s t) (chip n t)
 
-  restarted-leaves : (bit : ℕ) → PlaceAlone (chip s t) (chip (restarted bit t s) t)
-  unfolding restarted
-  restarted-leaves bit =
-      cases (increments bit (s .update))
+  fetch-leaves : (i p j : ℕ) → Moves (spaceOf j .onIndex t (at s i p))
+  unfolding updateControl paletteWrite paletteRead nowhere
+  fetch-leaves i p j =
+      space-holds j (λ (row : Space). Moves (row .onIndex t (at s i p))) (λ l. refl, (λ l. refl, (λ l. refl, tt)))
+      (λ out. refl)
+
+  stepped-leaves : (order : List Transfer) (d : Direction) (fetch : State → State)
+      → ((i p : ℕ) → Moves (fetch (at s i p))) → Moves (stepped order d fetch s)
+  unfolding stepped restarted
+  stepped-leaves order d fetch h =
+      cases (follows order (s .place))
+      (λ e. subst Moves (sym (picks-first _ _ e)) refl)
       (λ e.
-      subst (λ (n : State). PlaceAlone (chip s t) (chip n t)) (sym (picks-first _ _ e))
-      (prepared-leaves (spaceOf (next (s .index))) (next (s .index)) 0))
-      (λ e. subst (λ (n : State). PlaceAlone (chip s t) (chip n t)) (sym (picks-second _ _ e)) refl)
-
-  moved-leaves : (d : Direction) (k : Component) → PlaceAlone (chip s t) (chip (moved d k t s) t)
-  unfolding moved
-  moved-leaves d red = refl
-  moved-leaves d green = refl
-  moved-leaves d blue = restarted-leaves (bitFor d)
+      subst Moves (sym (picks-second _ _ e))
+      (cases (increments d (s .update))
+      (λ f. subst Moves (sym (picks-first _ _ f)) (h (next (s .index)) 0))
+      (λ f. subst Moves (sym (picks-second _ _ f)) refl)))
 
 -- ---- a write
-palette-leaves : (k : Component) (v : ℕ) (c : Chip) → DataWriteLeaves paletteWrite c (paletteWritten k v c)
-unfolding paletteWritten taken moved
-palette-leaves red v c = refl
-palette-leaves green v c = refl
-palette-leaves blue v c =
-    let n = taken blue v c in
-    ap (withPalette (paletteWritten blue v c)) (restarted-leaves (n .state) (n .table) (bitFor writing))
+taken-leaves : (order : List Transfer) (b : ℕ) (c : Chip) → PaletteAlone c (taken order b c)
+unfolding taken
+taken-leaves order b c =
+    cases (follows order (c .state .place))
+    (λ e. subst (PaletteAlone c) (sym (picks-first _ _ e)) refl)
+    (λ e. subst (PaletteAlone c) (sym (picks-second _ _ e)) refl)
 
-data-written-leaves : (space : Space) (b : ℕ) (c : Chip) → DataWriteLeaves space c (dataWritten space b c)
-unfolding dataWritten
-data-written-leaves updateControl b c = refl
-data-written-leaves paletteWrite b c = palette-leaves (component (c .state .place)) (ten 8 b) c
-data-written-leaves paletteRead b c = refl
-data-written-leaves unnamed b c = refl
+-- what moves the place alone after the palette's part moved
+palette-after : (c d n : Chip) → PaletteAlone c d → PlaceAlone d n → PaletteAlone c n
+palette-after c d n e h =
+    h ∙ ap (λ (x : Chip). chip (state (n .state .index) (n .state .place) (n .state .red) (n .state .green)
+    (n .state .fetched) (x .state .update)) (n .table)) e
 
-written-leaves : (p : Port) (b : ℕ) (c : Chip) → WriteLeaves p c (written p b c)
+palette-leaves : (order : List Transfer) (b : ℕ) (c : Chip) → PaletteAlone c (paletteTaken order b c)
+unfolding paletteTaken
+palette-leaves order b c =
+    let n = taken order b c in
+    palette-after c n _ (taken-leaves order b c)
+    (stepped-leaves (n .state) (n .table) order writing (fetchesNothing (n .table)) (λ i p. refl))
+
+data-write-leaves : (b : ℕ) (c : Chip) → DataWriteLeaves c (dataWritten (spaceOf (c .state .index) .onWrite) b c .left)
+unfolding updateControl paletteWrite paletteRead nowhere dataWritten
+data-write-leaves b c =
+    space-holds (c .state .index) (λ (row : Space). DataWriteLeaves c (dataWritten (row .onWrite) b c .left))
+    (λ l. record { register = λ e. refl; elsewhere = λ e. absurd (e (omega arith)) },
+    (λ l. record { register = λ e. absurd (omega arith); elsewhere = λ e. palette-leaves threeBytes b c },
+    (λ l. record { register = λ e. refl; elsewhere = λ e. refl }, tt)))
+    (λ out. record { register = λ e. refl; elsewhere = λ e. refl })
+
+written-leaves : (r : Register) (b : ℕ) (c : Chip) → WriteLeaves r c (written r b c .left)
 unfolding written
 written-leaves indexLow b c = refl
-written-leaves indexHigh b c = prepared-leaves (c .state) (c .table) _ _ 0
-written-leaves indexData b c = data-written-leaves (spaceOf (c .state .index)) b c
-written-leaves otherPort b c = refl
+written-leaves indexHigh b c = fetch-leaves (c .state) (c .table) _ 0 _
+written-leaves indexData b c = data-write-leaves b c
+written-leaves notServed b c = refl
 
-pub write-leaves : (port b : ℕ) (c : Chip) → WriteLeaves (portOf port) c (write port b c .left)
-unfolding write access
+pub write-leaves : (port b : ℕ) (c : Chip) → WriteLeaves (registerAt port) c (called (writes port b) c .left)
 write-leaves port b c =
-    let p = portOf port in
-    left-holds (WriteLeaves p c) _ 0 c _ (kept-by-access p c .0) (λ e. written-leaves p b c)
+    let r = registerAt port in
+    called-holds refusals does (writes port b) c (WriteLeaves r c) (kept-by-write r c) (λ none. written-leaves r b c)
 
 -- ---- a read
-data-read-leaves : (space : Space) (c : Chip) → DataReadLeaves space c (dataRead space c .left)
-unfolding dataRead
-data-read-leaves updateControl c = refl
-data-read-leaves paletteWrite c = refl
-data-read-leaves paletteRead c = moved-leaves (c .state) (c .table) reading (component (c .state .place))
-data-read-leaves unnamed c = refl
+data-read-leaves : (c : Chip) → DataReadLeaves c (dataRead (spaceOf (c .state .index) .onRead) c .left)
+unfolding updateControl paletteWrite paletteRead nowhere dataRead paletteTold
+data-read-leaves c =
+    let s = c .state in
+    let t = c .table in
+    let told = stepped-leaves s t threeBytes reading (fetchesEntry t) (λ i p. refl) in
+    space-holds (s .index) (λ (row : Space). DataReadLeaves c (dataRead (row .onRead) c .left))
+    (λ l. record { register = λ e. refl; elsewhere = refl },
+    (λ l. record { register = λ e. refl; elsewhere = refl },
+    (λ l. record { register = λ e. absurd (omega arith); elsewhere = told }, tt)))
+    (λ out. record { register = λ e. refl; elsewhere = refl })
 
-read-out-leaves : (p : Port) (c : Chip) → ReadLeaves p c (readOut p c .left)
-unfolding readOut
-read-out-leaves indexLow c = refl
-read-out-leaves indexHigh c = refl
-read-out-leaves indexData c = data-read-leaves (spaceOf (c .state .index)) c
-read-out-leaves otherPort c = refl
+answers-leave : (r : Register) (c : Chip) → ReadLeaves r c (answers r c .left)
+unfolding answers
+answers-leave indexLow c = refl
+answers-leave indexHigh c = refl
+answers-leave indexData c = data-read-leaves c
+answers-leave notServed c = refl
 
-pub read-leaves : (port : ℕ) (c : Chip) → ReadLeaves (portOf port) c (read port c .left)
-unfolding read access
+pub read-leaves : (port : ℕ) (c : Chip) → ReadLeaves (registerAt port) c (called (reads port) c .left)
 read-leaves port c =
-    let p = portOf port in
-    left-holds (ReadLeaves p c) _ 0 c _ (kept-by-access p c .1) (λ e. read-out-leaves p c)
-
--- ---- a reset keeps the table
-pub reset-keeps-table : (c : Chip) → reset c .left .table ≡ c .table
-unfolding reset
-reset-keeps-table c = left-holds (λ (d : Chip). d .table ≡ c .table) _ 0 c _ refl (λ e. refl)
+    let r = registerAt port in
+    called-holds refusals does (reads port) c (ReadLeaves r c) (kept-by-read r c) (λ none. answers-leave r c)

@@ -5,7 +5,8 @@ use mathlib.Core.Path.{_≡_}
 use lib.ListN.{length}
 use Rattle.vocabulary.specs.Outcome.{accepting}
 use Rattle.expand.specs.Expand.{expansion}
-use Rattle.ms622424.specs.Ms622424.{Chip, Sound, entries, read, reset}
+use Rattle.vocabulary.specs.Run.{Accepted}
+use Rattle.ms622424.specs.Ms622424.{Chip, InRange, entries, reads, resets, called}
 
 -- w bits expand to so many
 abbrev pub Expands : ℕ → ℕ → ℕ → Type 0
@@ -13,17 +14,18 @@ Expands w v t = expansion w v ≡ accepting t 0 tt
 
 -- the status read answers a byte, and moves nothing
 abbrev pub Answers : Chip → ℕ → Type 0
-Answers c byte = read 4 c ≡ accepting byte 0 c
+Answers c byte = called (reads 4) c ≡ accepting byte 0 c
 
 -- just after an accepted reset
 abbrev pub Fresh : ℕ → Type 0
-Fresh byte = (c : Chip) → length (c .map) ≡ 3 * entries → reset c .refusal ≡ 0 → Answers (reset c .left) byte
+Fresh byte =
+    (c : Chip) → length (c .map) ≡ 3 * entries → Accepted called resets c → Answers (called resets c .left) byte
 
 -- with command bit 4 and the counter 0, so many waiting
 abbrev pub Status : ℕ → ℕ → ℕ → Type 0
 Status bit waiting byte =
-    (c : Chip) → Sound c → c .state .command / 16 % 2 ≡ bit → c .state .counter ≡ 0 → c .state .waiting ≡ waiting
-    → Answers c byte
+    (c : Chip) → InRange c → c .control .command / 16 % 2 ≡ bit → c .port .counter ≡ 0
+    → length (c .waiting) ≡ waiting → Answers c byte
 
 pub record Edges : Type 0 where
   pub p1 : Expands 8 63 252
