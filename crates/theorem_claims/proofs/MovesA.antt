@@ -115,5 +115,5 @@ early-keeps blinkTiming byte c h = search
 pub early-write-keeps-tables : (select byte : ℕ) (c : Chip) → (componentAt (c .state .pointer) ≡ blue → ⊥)
     → SameTables c (called (writes select byte) c .left)
 early-write-keeps-tables select byte c h =
-    called-holds refusals does (writes select byte) c (SameTables c) search
-    (λ none. early-keeps (registerAt select) byte c h)
+    called-holds refusals does (writes select byte) c (SameTables c)
+    (record { colours = refl; overlays = refl }) (λ none. early-keeps (registerAt select) byte c h)

@@ -62,8 +62,10 @@ taken-leaves order b c =
 -- what moves the place alone after the palette's part moved
 palette-after : (c d n : Chip) → PaletteAlone c d → PlaceAlone d n → PaletteAlone c n
 palette-after c d n e h =
-    h ∙ ap (λ (x : Chip). chip (state (n .state .index) (n .state .place) (n .state .red) (n .state .green)
-    (n .state .fetched) (x .state .update)) (n .table)) e
+    let s = n .state in
+    let same : s .update ≡ c .state .update =
+    ap (λ (x : Chip). x .state .update) h ∙ ap (λ (x : Chip). x .state .update) e in
+    subst (λ (u : ℕ). n ≡ chip (state (s .index) (s .place) (s .red) (s .green) (s .fetched) u) (n .table)) same refl
 
 palette-leaves : (order : List Transfer) (b : ℕ) (c : Chip) → PaletteAlone c (paletteTaken order b c)
 unfolding paletteTaken

@@ -14,10 +14,10 @@ abbrev pub Determined : {A C : Type 0} → (A → C) → C → Type 0
 Determined {A = A} says d = DeterminedOf {A = A} (λ a. Unit) says d
 
 -- the bytes of a pixel
-pub record Bytes (red green blue : ℕ) : Type 0 where
-  pub red : red < 256
-  pub green : green < 256
-  pub blue : blue < 256
+pub record Bytes (r g b : ℕ) : Type 0 where
+  pub red : r < 256
+  pub green : g < 256
+  pub blue : b < 256
 
 -- a refusal that the enum holds has a number; `Refused(0)` would mean what `Done(0)` means
 abbrev pub Numbered : Answer → Type 0
