@@ -1,11 +1,18 @@
--- Laws of data writes, of either table alike. Assumes nothing.
-use Prim.Native.Nat.{ℕ}
+-- Laws of a table's entries and of data writes, of either table alike. Assumes nothing.
+use Prim.Native.Nat.{ℕ, _+_, _*_, _<_}
 use native.Mathlib.Omega.{arith}
-use mathlib.Core.Path.{_≡_, refl}
+use mathlib.Core.Path.{_≡_, refl, _∙_}
+use mathlib.Core.List.{List}
+use lib.ListN.{getD, drop}
+use lib.Seq.{getD-take, getD-drop}
 use Rattle.hd153108.specs.Hd153108.{Chip, Table, colour, overlay, entryAt, tableOf, withTable, withState}
-use Rattle.hd153108.specs.Hd153108.{port, next, stepped, nibble, latched, stored, dataWrite}
+use Rattle.hd153108.specs.Hd153108.{port, next, stepped, nibble, latched, stored, dataWrite, colourAt}
 use Rattle.vocabulary.specs.Component.{put}
 use Rattle.hd153108.proofs.Access.{is-red, is-green, is-blue}
+
+-- the bytes of an entry
+pub byte-at : (t : List ℕ) (e i : ℕ) → i < 3 → getD (colourAt e t) i 0 ≡ getD t (3 * e + i) 0
+byte-at t e i h = getD-take 3 (drop (3 * e) t) i 0 h ∙ getD-drop (3 * e) t i 0
 
 -- the chip with another address, pointer, latched red and latched green
 abbrev pub at : Chip → ℕ → ℕ → ℕ → ℕ → Chip

@@ -5,10 +5,10 @@ use mathlib.Core.List.{List, []}
 use native.Mathlib.Omega.{arith}
 use native.Mathlib.Nat.{add-zero}
 use lib.ListN.{length, getD, take, drop}
-use lib.Seq.{getD-take, getD-drop}
 use Rattle.vocabulary.specs.Outcome.{Outcome, refusing}
 use Rattle.hd153108.specs.declared.State.{State}
 use Rattle.hd153108.specs.Hd153108.{Chip, chip, colourAt, pixelPart, pixels, called}
+use Rattle.hd153108.proofs.Data.{byte-at}
 use Rattle.hd153108_shown.specs.declared.Pick.{Pick}
 use Rattle.hd153108_shown.specs.declared.Pick.the-variants.{Colour, Overlay, Refused}
 use Rattle.hd153108_shown.specs.Picked.{Picked}
@@ -16,12 +16,12 @@ use Rattle.hd153108_shown.proofs.Rule.{part-as, told-as, inside-as}
 use Rattle.hd153108_pixel.specs.declared.Shown.{Shown}
 use Rattle.hd153108_pixel.specs.Outcome.{showing, lit}
 
--- an entry's byte
-pub byte-at : (t : List ℕ) (e i : ℕ) → i < 3 → getD t (3 * e + i) 0 ≡ getD (colourAt e t) i 0
-byte-at t e i h = sym (getD-take 3 (drop (3 * e) t) i 0 h ∙ getD-drop (3 * e) t i 0)
+-- an entry's bytes, as the code reads them
+pub later-at : (t : List ℕ) (e i : ℕ) → i < 3 → getD t (3 * e + i) 0 ≡ getD (colourAt e t) i 0
+later-at t e i h = sym (byte-at t e i h)
 
 pub first-at : (t : List ℕ) (e : ℕ) → getD t (3 * e) 0 ≡ getD (colourAt e t) 0 0
-first-at t e = ap (λ (i : ℕ). getD t i 0) (sym (add-zero (3 * e))) ∙ byte-at t e 0 (omega arith)
+first-at t e = ap (λ (i : ℕ). getD t i 0) (sym (add-zero (3 * e))) ∙ later-at t e 0 (omega arith)
 
 three : (n : ℕ) → n + 3 - n ≡ 3
 three n = omega arith

@@ -5,14 +5,13 @@ use mathlib.Core.List.{[], _∷_}
 use mathlib.Core.Bool.{Bool, true, false}
 use native.Mathlib.Omega.{arith}
 use Rattle.hd153108.specs.Hd153108.{Chip, Table, colour, overlay, registerAt, size, tableOf, withTable}
-use Rattle.hd153108.specs.Hd153108.{entryAt, next, port, put, dataWrite, written}
+use Rattle.hd153108.specs.Hd153108.{entryAt, next, port, dataWrite, written, InRange}
+use Rattle.vocabulary.specs.Component.{put}
 use Rattle.hd153108.proofs.Data.{at, red-write, green-write, blue-write}
 use Rattle.sheet.specs.declared.Line.the-variants.{Has}
 use Rattle.sheet.specs.Sheet.{redOf, greenOf, blueOf}
 use Rattle.calls.specs.Calls.{call, colourCalls, entryCalls}
-use Rattle.load.specs.Load.{InRange}
-use Rattle.load.proofs.Writes.{table-of-state}
-use Rattle.load.proofs.Runs.{Runs, one, next as after}
+use Rattle.theorem_load.proofs.Runs.{Runs, one, next as after}
 
 -- ---- a data write, by the pointer
 
@@ -28,6 +27,10 @@ data-call colour b c g h e = one 1 b c g refl h e
 data-call overlay b c g h e = one 3 b c g refl h e
 
 -- ---- one entry
+
+table-of-state : (t : Table) (c : Chip) (a p r g : ℕ) → tableOf t (at c a p r g) ≡ tableOf t c
+table-of-state colour c a p r g = refl
+table-of-state overlay c a p r g = refl
 
 entry-at : (t : Table) (e : ℕ) → e < size t → entryAt t e ≡ e
 entry-at colour e h = refl

@@ -9,7 +9,7 @@ use Rattle.hd153108.specs.Hd153108.{colourAt}
 use Rattle.sheet.specs.declared.Line.the-variants.{Has, Missing}
 use Rattle.sheet.specs.Sheet.{coloursIn, overFifteenIn, redOf, greenOf, blueOf}
 use Rattle.sheet_writer.proofs.Values.{low-first}
-use Rattle.load.specs.Load.{filled}
+use Rattle.theorem_load.specs.Load.{filled}
 
 -- an entry's bytes are below 16, and so are those behind it
 low-entry : (r g b : ℕ) (t : List ℕ) → overFifteenIn (r ∷ g ∷ b ∷ t) ≡ false

@@ -15,7 +15,7 @@ use Rattle.sheet.specs.declared.Line.the-variants.{Has, Missing}
 use Rattle.sheet.specs.Sheet.{keyAt, keys, sheetOf, good, registersOf, overlaysOf}
 use Rattle.sheet.proofs.Texts.{width-entry}
 use Rattle.sheet.proofs.Good.{Lawful, sound}
-use Rattle.load.specs.Load.{entriesOf}
+use Rattle.theorem_load.specs.Load.{entriesOf}
 
 -- ---- parts of lawful lines
 
