@@ -39,10 +39,10 @@ pub table-calls : (t : Table) (e : ℕ) (follows : Bool) (l : List Line) (c : Ch
     → e + length l ≤ size t → Ready t e follows c → Runs (tableCalls (selectOf t) e follows l) c (tableDone t e l c)
 unfolding tableCalls tableDone lineDone entryCalls
 table-calls t e follows [] c g b n r = none c
-table-calls t e follows (Has v ∷ l) c g b n r =
+table-calls t e follows (Has v ∷ l) c g (fits, b) n r =
     let h : e < size t = omega arith in
-    after g (entry-calls t e v h (b .0) follows c g (λ f. r f h))
-    (λ g1. table-calls t (e + 1) true l (entryDone t e v c) g1 (b .1) (omega arith) (ready-next t e v c))
+    after g (entry-calls t e v h fits follows c g (λ f. r f h))
+    (λ g1. table-calls t (e + 1) true l (entryDone t e v c) g1 b (omega arith) (ready-next t e v c))
 table-calls t e follows (Missing ∷ l) c g b n r =
     table-calls t (e + 1) false l c g b (omega arith) (λ f h. clash (sym f))
 

@@ -80,7 +80,7 @@ module _ (t : Table) (e v : ℕ) (inTable : e < size t) (colourFits : v < 4096) 
       → (follows ≡ true → (c .state .pointer ≡ 0) × (c .state .address ≡ e))
       → Runs (entryCalls (selectOf t) e follows (Has v)) c (entryDone t e v c)
   unfolding entryCalls
-  entry-calls true c g r = three-calls c g (r refl .0) (r refl .1)
+  entry-calls true c g r = let (pointer, address) = r refl in three-calls c g pointer address
   entry-calls false c g r =
       after g (address-call c g) (λ h. rw (addressed-done c) at (three-calls _ h refl refl))
 
