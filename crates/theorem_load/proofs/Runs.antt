@@ -42,7 +42,8 @@ pub next : {ks ls : List Call} {c d e : Chip} → InRange c → Runs ks c d → 
     → Runs (ks ++ ls) c e
 next {ks} {ls} {c} g r f =
     let on = f (runs-in-range g r) in
+    let rest : AllAccepted writing ls (made writing ks c) = rw (r .leads) (on .accepted) in
     record {
-      accepted = along-append (making writing) (Accepted (making writing)) ks ls c (r .accepted) (rw (r .leads) (on .accepted));
+      accepted = along-append (making writing) (Accepted (making writing)) ks ls c (r .accepted) rest;
       leads = after-append (making writing) ks ls c ∙ (ap (made writing ls) (r .leads) ∙ on .leads);
     }
