@@ -18,6 +18,10 @@ byte-at t e i h = getD-take 3 (drop (3 * e) t) i 0 h ∙ getD-drop (3 * e) t i 0
 abbrev pub at : Chip → ℕ → ℕ → ℕ → ℕ → Chip
 at c a p r g = withState (port (c .state) a p r g) c
 
+pub table-at : (t : Table) (c : Chip) (a p r g : ℕ) → tableOf t (at c a p r g) ≡ tableOf t c
+table-at colour c a p r g = refl
+table-at overlay c a p r g = refl
+
 -- a red write latches, and stores nothing
 pub red-write : (t : Table) (byte : ℕ) (c : Chip) → c .state .pointer ≡ 0
     → dataWrite t byte c ≡ at c (c .state .address) 1 (nibble byte) (c .state .green)
@@ -48,13 +52,4 @@ pub latches-shared : (t u v : Table) (r g b : ℕ) (c : Chip) → c .state .poin
 latches-shared t u v r g b c e =
     let red = at c (c .state .address) 1 (nibble r) (c .state .green) in
     let green = at c (c .state .address) 2 (nibble r) (nibble g) in
-    rw (red-write t r c e, green-write u g red refl, blue-write v b green refl) (by v)
-  where
-    by : (v : Table) → withTable v
-        (put (entryAt v (c .state .address)) (nibble r) (nibble g) (nibble b)
-        (tableOf v (at c (c .state .address) 2 (nibble r) (nibble g))))
-        (at c (next v (c .state .address)) 0 (nibble r) (nibble g))
-        ≡ withTable v (put (entryAt v (c .state .address)) (nibble r) (nibble g) (nibble b) (tableOf v c))
-        (at c (next v (c .state .address)) 0 (nibble r) (nibble g))
-    by colour = refl
-    by overlay = refl
+    rw (red-write t r c e, green-write u g red refl, blue-write v b green refl, table-at v c)

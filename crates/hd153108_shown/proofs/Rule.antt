@@ -110,6 +110,9 @@ module _ {enable number byte : ℕ} {c : Chip} {p q : Pick} (k : Picked enable n
   pub told-as : told (meaning c q) c ≡ called (pixels enable number byte) c
   told-as = ap (λ (o : Outcome (List ℕ)). told o c) means-as ∙ sym (pixel-lent enable number byte c)
 
+  pub refusal-as : meaning c q .refusal ≡ called (pixels enable number byte) c .refusal
+  refusal-as = ap (λ (o : Outcome Chip). o .refusal) told-as
+
   pub inside-as : Inside c q
   inside-as = rw e at (k .inside)
 

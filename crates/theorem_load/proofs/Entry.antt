@@ -7,7 +7,7 @@ use native.Mathlib.Omega.{arith}
 use Rattle.hd153108.specs.Hd153108.{Chip, Table, colour, overlay, registerAt, size, tableOf, withTable}
 use Rattle.hd153108.specs.Hd153108.{entryAt, next, port, dataWrite, written, InRange}
 use Rattle.vocabulary.specs.Component.{put}
-use Rattle.hd153108.proofs.Data.{at, red-write, green-write, blue-write}
+use Rattle.hd153108.proofs.Data.{at, table-at, red-write, green-write, blue-write}
 use Rattle.sheet.specs.declared.Line.the-variants.{Has}
 use Rattle.sheet.specs.Sheet.{redOf, greenOf, blueOf}
 use Rattle.calls.specs.Calls.{call, colourCalls, entryCalls}
@@ -27,10 +27,6 @@ data-call colour b c g h e = one 1 b c g refl h e
 data-call overlay b c g h e = one 3 b c g refl h e
 
 -- ---- one entry
-
-table-of-state : (t : Table) (c : Chip) (a p r g : ℕ) → tableOf t (at c a p r g) ≡ tableOf t c
-table-of-state colour c a p r g = refl
-table-of-state overlay c a p r g = refl
 
 entry-at : (t : Table) (e : ℕ) → e < size t → entryAt t e ≡ e
 entry-at colour e h = refl
@@ -65,12 +61,12 @@ module _ (t : Table) (e v : ℕ) (inTable : e < size t) (colourFits : v < 4096) 
       after g (data-call t red c g (omega arith) (red-write t red c p ∙ rw (a, r)))
       (λ g1. after g1 (data-call t green c1 g1 (omega arith) (green-write t green c1 refl ∙ rw n))
       (λ g2. data-call t (blueOf v) c2 g2 (omega arith)
-      (blue-write t (blueOf v) c2 refl ∙ rw (b, entry-at t e inTable, table-of-state t c))))
+      (blue-write t (blueOf v) c2 refl ∙ rw (b, entry-at t e inTable, table-at t c))))
 
   -- where an address write comes first, no matter what address and pointer were
   addressed-done : (c : Chip) → entryDone t e v (at c e 0 (c .state .red) (c .state .green)) ≡ entryDone t e v c
   unfolding entryDone
-  addressed-done c = rw (table-of-state t c)
+  addressed-done c = rw (table-at t c)
 
   address-call : (c : Chip) → InRange c → Runs (call 0 e ∷ []) c (at c e 0 (c .state .red) (c .state .green))
   unfolding registerAt written
