@@ -18,7 +18,7 @@ use Rattle.rgb640.specs.declared.Answer.{Answer}
 use Rattle.rgb640.specs.Rgb640.{chip, colour, at, latching, Direction, writing, reading, increments}
 use Rattle.rgb640.specs.Rgb640.{offset, next, fetchesNothing, fetchesEntry, Transfer, eightBits, threeBytes}
 use Rattle.rgb640.specs.Rgb640.{transferAt, follows, restarted, stepped, taken, paletteTaken, paletteTold}
-use Rattle.rgb640.specs.Rgb640.{accept, outcome}
+use Rattle.rgb640.specs.Rgb640.{accept, outcome, InRange}
 
 -- ---- Any order
 module _ (order : List Transfer) (s : State) (t : List ℕ) (k : Transfer) (at-place : transferAt order (s .place) ≡ k) where
@@ -77,6 +77,10 @@ byte-at p green e = rw e
 byte-at p blue e = rw e
 
 module _ (s : State) (t : List ℕ) where
+  -- which is the last, in a state in range
+  pub last-place : InRange (chip s t) → (s .place ≡ 0 → ⊥) → (s .place ≡ 1 → ⊥) → s .place ≡ 2
+  last-place r f g = omega arith
+
   module _ (b : ℕ) {v : ℕ} (e : v ≡ ten 8 b) where
     pub red-latched : s .place ≡ 0
         → chip (at (latching s v (s .green)) (s .index) 1) t ≡ paletteTaken threeBytes b (chip s t)
