@@ -152,12 +152,12 @@ reads-back c x e r g b he hr hg hb =
     let low = ten-below 8 (omega arith) (omega arith) in
     let top = ten-top 8 (omega arith) (omega arith) in
     let nothing : pointed c x i (omega arith) ≡ chip s (c .table) =
-        ap (λ (n : State). chip n (c .table)) (fetches-nothing _ (λ a b. omega arith) _ _) in
+    ap (λ (n : State). chip n (c .table)) (fetches-nothing _ (λ a b. omega arith) _ _) in
     let y = pointed-range c x i (omega arith) nothing in
     let z = stored-range s (c .table) y (omega arith) (omega arith) refl r g b hr hg hb in
     let found : entry e (put (offset i) (ten 8 r) (ten 8 g) (ten 8 b) (c .table)) ≡ colour (ten 8 r) (ten 8 g) (ten 8 b)
-        = ap (λ (n : ℕ). entry e (put n (ten 8 r) (ten 8 g) (ten 8 b) (c .table))) (omega arith)
-        ∙ entry-put e _ _ _ (c .table) (omega arith) (low r hr) (low g hg) (low b hb) in
+    = ap (λ (n : ℕ). entry e (put n (ten 8 r) (ten 8 g) (ten 8 b) (c .table))) (omega arith)
+    ∙ entry-put e _ _ _ (c .table) (omega arith) (low r hr) (low g hg) (low b hb) in
     told (points c x i (omega arith) nothing
     (stores s (c .table) y (omega arith) (omega arith) refl r g b hr hg hb (recalled _ z e he _ found)))
     ∙ (let er = top r hr in let eg = top g hg in let eb = top b hb in cc)
