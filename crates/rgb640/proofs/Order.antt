@@ -1,7 +1,7 @@
 -- The order of transfers: what a transfer of any order does, then the three bytes of Table 26, and the bits of
 -- register 0x000E as the code masks them. Assumes nothing.
-use Prim.Native.Nat.{ℕ, _+_, _*_, _/_, _<_}
-use mathlib.Core.Path.{_≡_, refl, sym, ap, _∙_}
+use Prim.Native.Nat.{ℕ, _+_, _/_}
+use mathlib.Core.Path.{_≡_, sym, ap}
 use mathlib.Core.Bool.{true, false}
 use mathlib.Core.List.{List}
 use native.Mathlib.Omega.{arith}
@@ -9,7 +9,6 @@ use borrow.Author.Tests.{eq-eqb, ne-eqb}
 use lib.Bits.{bitAnd, and-high}
 use Rattle.vocabulary.specs.Component.{Component, red, green, blue, part, put}
 use Rattle.vocabulary.specs.Line.{line}
-use Rattle.vocabulary.specs.Outcome.{accepting}
 use Rattle.vocabulary.proofs.Choice.{picks-first, picks-second}
 use Rattle.expand.specs.Expand.{ten}
 use Rattle.rgb640.specs.declared.Colour.{Colour}
@@ -18,10 +17,10 @@ use Rattle.rgb640.specs.declared.Answer.{Answer}
 use Rattle.rgb640.specs.Rgb640.{chip, colour, at, latching, Direction, writing, reading, increments}
 use Rattle.rgb640.specs.Rgb640.{offset, next, fetchesNothing, fetchesEntry, Transfer, eightBits, threeBytes}
 use Rattle.rgb640.specs.Rgb640.{transferAt, follows, restarted, stepped, taken, paletteTaken, paletteTold}
-use Rattle.rgb640.specs.Rgb640.{accept, outcome}
+use Rattle.rgb640.specs.Rgb640.{accept, acceptTold, InRange}
 
 -- ---- Any order
-module _ (order : List Transfer) (s : State) (t : List ℕ) (k : Transfer) (at-place : transferAt order (s .place) ≡ k) where
+module _ (order : List Transfer) (s : State) (t : List ℕ) (k : Transfer) (is : transferAt order (s .place) ≡ k) where
   -- a written byte that another follows is latched; the last is stored
   module _ (b : ℕ) where
     abbrev pub underway : Colour
@@ -34,24 +33,23 @@ module _ (order : List Transfer) (s : State) (t : List ℕ) (k : Transfer) (at-p
         → chip (at (latching s (underway .red) (underway .green)) (s .index) (s .place + 1)) t
         ≡ paletteTaken order b (chip s t)
     unfolding paletteTaken taken stepped
-    latches e = rw (at-place, picks-first _ _ e) (ap (λ (n : State). chip n t) (sym (picks-first _ _ e)))
+    latches e = rw (is, picks-first _ _ e) (ap (λ (n : State). chip n t) (sym (picks-first _ _ e)))
 
     pub stores : follows order (s .place) ≡ false
         → chip (restarted writing (fetchesNothing full) s) full ≡ paletteTaken order b (chip s t)
     unfolding paletteTaken taken stepped
-    stores e = rw (at-place, picks-second _ _ e) (ap (λ (n : State). chip n full) (sym (picks-second _ _ e)))
+    stores e = rw (is, picks-second _ _ e) (ap (λ (n : State). chip n full) (sym (picks-second _ _ e)))
 
   -- a byte is read, and another follows or not
   pub goes-on : follows order (s .place) ≡ true
-      → accepting (k .tells (s .fetched)) 0 (chip (at s (s .index) (s .place + 1)) t) ≡ paletteTold order (chip s t)
+      → (k .tells (s .fetched), at s (s .index) (s .place + 1)) ≡ paletteTold order (chip s t)
   unfolding paletteTold stepped
-  goes-on e = rw (at-place, picks-first _ _ e)
+  goes-on e = rw (is, picks-first _ _ e)
 
   pub ends : follows order (s .place) ≡ false
-      → accepting (k .tells (s .fetched)) 0 (chip (restarted reading (fetchesEntry t) s) t)
-      ≡ paletteTold order (chip s t)
+      → (k .tells (s .fetched), restarted reading (fetchesEntry t) s) ≡ paletteTold order (chip s t)
   unfolding paletteTold stepped
-  ends e = rw (at-place, picks-second _ _ e)
+  ends e = rw (is, picks-second _ _ e)
 
 -- after the last transfer the order restarts, ..
 pub restarts : (order : List Transfer) (d : Direction) (fetch : State → State) (s : State)
@@ -77,6 +75,10 @@ byte-at p green e = rw e
 byte-at p blue e = rw e
 
 module _ (s : State) (t : List ℕ) where
+  -- which is the last, in a state in range
+  pub last-place : InRange (chip s t) → (s .place ≡ 0 → ⊥) → (s .place ≡ 1 → ⊥) → s .place ≡ 2
+  last-place r f g = omega arith
+
   module _ (b : ℕ) {v : ℕ} (e : v ≡ ten 8 b) where
     pub red-latched : s .place ≡ 0
         → chip (at (latching s v (s .green)) (s .index) 1) t ≡ paletteTaken threeBytes b (chip s t)
@@ -91,17 +93,18 @@ module _ (s : State) (t : List ℕ) where
         → chip n u ≡ paletteTaken threeBytes b (chip s t)
     blue-stored p f g = let l = stores threeBytes s t _ (byte-at _ blue p) b (rw p) in cc
 
-  pub red-told : s .place ≡ 0
-      → outcome (accept (s .fetched .red / 4) (at s (s .index) 1)) t ≡ paletteTold threeBytes (chip s t)
-  red-told p = let l = goes-on threeBytes s t _ (byte-at _ red p) (rw p) in cc
+  module _ {a : Answer} where
+    pub red-told : s .place ≡ 0 → a ≡ accept (s .fetched .red / 4) (at s (s .index) 1)
+        → a ≡ acceptTold (paletteTold threeBytes (chip s t))
+    red-told p e = let l = goes-on threeBytes s t _ (byte-at _ red p) (rw p) in cc
 
-  pub green-told : s .place ≡ 1
-      → outcome (accept (s .fetched .green / 4) (at s (s .index) 2)) t ≡ paletteTold threeBytes (chip s t)
-  green-told p = let l = goes-on threeBytes s t _ (byte-at _ green p) (rw p) in cc
+    pub green-told : s .place ≡ 1 → a ≡ accept (s .fetched .green / 4) (at s (s .index) 2)
+        → a ≡ acceptTold (paletteTold threeBytes (chip s t))
+    green-told p e = let l = goes-on threeBytes s t _ (byte-at _ green p) (rw p) in cc
 
-  pub blue-told : {n : State} → s .place ≡ 2 → n ≡ restarted reading (fetchesEntry t) s
-      → outcome (accept (s .fetched .blue / 4) n) t ≡ paletteTold threeBytes (chip s t)
-  blue-told p g = let l = ends threeBytes s t _ (byte-at _ blue p) (rw p) in cc
+    pub blue-told : {n : State} → s .place ≡ 2 → a ≡ accept (s .fetched .blue / 4) n
+        → n ≡ restarted reading (fetchesEntry t) s → a ≡ acceptTold (paletteTold threeBytes (chip s t))
+    blue-told p e f = let l = ends threeBytes s t _ (byte-at _ blue p) (rw p) in cc
 
 -- ---- Register 0x000E: the code's masks 2 and 4 are its bits 1 and 2
 module _ (u : ℕ) where
