@@ -60,7 +60,6 @@ none [] e = refl
 none (x ∷ l) e = absurd (let z : ⊥ = omega arith in z)
 
 read-waiting : (c : Chip) → Accepted called (reads 2) c → c .waiting ≡ []
-unfolding registerAt
 read-waiting c a =
     let clear = called-clear refusals does (reads 2) c a in
     let empty : not (eqb (length (c .waiting)) 0) ≡ false = search in
