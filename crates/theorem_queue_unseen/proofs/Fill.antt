@@ -1,4 +1,5 @@
--- After an accepted reset of a chip with a whole map, bytes for the palette fill the queue. Assumes nothing.
+-- After an accepted reset of a chip with a whole map, bytes for the palette fill the queue: by induction over the
+-- bytes, with 3 × waiting + counter the number of those taken. Assumes nothing.
 use Prim.Native.Nat.{ℕ, zero, suc, _+_, _*_, _<_, _≤_}
 use mathlib.Core.Path.{_≡_, refl, sym, ap, subst}
 use mathlib.Core.Bool.{Bool, true, not}

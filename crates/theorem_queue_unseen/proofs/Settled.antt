@@ -1,5 +1,5 @@
 -- What a call does to the settled map: a completed colour is written after all others, and nothing else changes it.
--- Assumes nothing.
+-- Moves take from the list's front what they store; the rest computes, select by select. Assumes nothing.
 use Prim.Native.Nat.{ℕ, zero, suc, _<_}
 use mathlib.Core.Path.{_≡_, refl, sym, ap, _∙_}
 use mathlib.Core.Bool.{true}

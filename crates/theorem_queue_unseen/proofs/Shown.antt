@@ -1,4 +1,5 @@
--- A pixel that reads no waiting address, and a read of the table, are of the settled map. Assumes nothing.
+-- A pixel that reads no waiting address, and a read of the table, are of the settled map: what is stored elsewhere is
+-- not read, and a read finds nothing waiting. Assumes nothing.
 use Prim.Native.Nat.{ℕ, _+_, _*_, _<_}
 use mathlib.Core.Path.{_≡_, refl, sym, ap, _∙_}
 use mathlib.Core.Bool.{true, false, not}
