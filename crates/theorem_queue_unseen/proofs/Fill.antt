@@ -44,7 +44,7 @@ taken-fills (suc (suc zero)) n byte c e h f hn =
           rw (every-append, every-one)
           (pair (f .low a l) (ap not (ne-eqb (c .port .address) a (λ z. omega arith))));
     }
-taken-fills (suc (suc (suc k))) n byte c e h f hn = absurd (let z : ⊥ = omega arith in z)
+taken-fills (suc (suc (suc k))) n byte c e h f hn = absurd (omega arith)
 
 -- ---- bytes for the palette, one after another
 abbrev pub forPalette : List ℕ → List Call

@@ -58,7 +58,7 @@ unfolding entryShown
 entry-high zero word k h = omega arith
 entry-high (suc zero) word k h = omega arith
 entry-high (suc (suc zero)) word k h = omega arith
-entry-high (suc (suc (suc mode))) word k h = absurd (let z : ⊥ = omega arith in z)
+entry-high (suc (suc (suc mode))) word k h = absurd (omega arith)
 
 reads-high : (mode word n : ℕ) (c : Chip) → mode < 3 → Filling n c → ReadsNoWaiting (suc mode) word c
 unfolding ReadsNoWaiting

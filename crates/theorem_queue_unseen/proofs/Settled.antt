@@ -46,7 +46,7 @@ unfolding settled componentAt taken pick allStored
 taken-settled zero byte c h = refl
 taken-settled (suc zero) byte c h = refl
 taken-settled (suc (suc zero)) byte c h = complete-settled (completed (c .port) byte) c
-taken-settled (suc (suc (suc n))) byte c h = absurd (let z : ⊥ = omega arith in z)
+taken-settled (suc (suc (suc n))) byte c h = absurd (omega arith)
 
 palette-settled : (byte : ℕ) (c : Chip) → c .port .counter < 3
     → settled (taken (selected (c .port)) byte (roomMade c .after))

@@ -58,7 +58,7 @@ settled-empty c e = ap (λ (es : List Entry). allStored es (c .map)) e
 
 none : {A : Type 0} (l : List A) → length l ≡ 0 → l ≡ []
 none [] e = refl
-none (x ∷ l) e = absurd (let z : ⊥ = omega arith in z)
+none (x ∷ l) e = absurd (omega arith)
 
 read-waiting : (c : Chip) → Accepted called (reads 2) c → c .waiting ≡ []
 read-waiting c a =
