@@ -1,26 +1,19 @@
 -- Laws of what every call tries first: which refusal the tests give. Assumes nothing.
-use Prim.Native.Nat.{ℕ, _<_, _≤_}
-use mathlib.Core.Path.{_≡_, refl, sym, _∙_}
+use Prim.Native.Nat.{_<_}
+use mathlib.Core.Path.{_≡_, refl}
 use mathlib.Core.Bool.{Bool, true, false}
-use mathlib.Core.List.{[], _∷_}
-use native.Mathlib.Omega.{arith}
-use borrow.Author.Tests.{not-true, not-false}
-use Rattle.vocabulary.specs.Range.{Bound, equal, meets, fails}
+use Rattle.vocabulary.specs.Range.{meets}
 use Rattle.vocabulary.specs.Refusal.{refusalOf, standing}
-use Rattle.vocabulary.proofs.Range.{agree, meets-holds, holds-meets, holds-passes, not-fails, meets-passes, misses-fails}
+use Rattle.vocabulary.proofs.Range.{agree, meets-holds, holds-meets}
 use Rattle.ms622424.specs.Ms622424.{Chip, queueRanges, ranges}
 
 -- the registers in their ranges, the queue's tests decide
-pub queue-decides : (c : Chip) {r : Bool} → r ≡ meets (queueRanges c) → (8192 ≤ c .port .address → ⊥)
-    → (3 ≤ c .port .counter → ⊥) → c .port .red < 256 → c .port .green < 256 → (32 ≤ c .control .command → ⊥)
-    → (2 ≤ c .control .readmode → ⊥) → (8 ≤ c .ident .revision → ⊥) → (16 ≤ c .ident .board → ⊥)
-    → r ≡ meets (ranges c)
-queue-decides c e a n r g d m v b =
-    e ∙ agree (meets (queueRanges c)) (meets (ranges c))
-    (λ t.
-    let q = meets-holds (queueRanges c) t in
-    holds-meets (ranges c)
-    (omega arith, (omega arith, (r, (g, (omega arith, (omega arith, (omega arith, (omega arith, q)))))))))
+pub queue-decides : (c : Chip) → c .port .address < 8192 → c .port .counter < 3 → c .port .red < 256
+    → c .port .green < 256 → c .control .command < 32 → c .control .readmode < 2 → c .ident .revision < 8
+    → c .ident .board < 16 → meets (queueRanges c) ≡ meets (ranges c)
+queue-decides c a n r g d m v b =
+    agree (meets (queueRanges c)) (meets (ranges c))
+    (λ t. holds-meets (ranges c) (a, (n, (r, (g, (d, (m, (v, (b, meets-holds (queueRanges c) t)))))))))
     (λ t. let (_, (_, (_, (_, (_, (_, (_, (_, q)))))))) = meets-holds (ranges c) t in holds-meets (queueRanges c) q)
 
 -- which refusal the two tests give

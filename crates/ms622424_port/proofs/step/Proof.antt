@@ -1,6 +1,6 @@
 use Prim.Native.Nat.{ℕ, _+_, _%_}
 use native.Mathlib.Omega.{arith}
-use mathlib.Core.Path.{_≡_, ap, _∙_}
+use mathlib.Core.Path.{_≡_, refl, ap, _∙_}
 use Rattle.vocabulary.specs.Component.{Component}
 use Rattle.ms622424.specs.Ms622424.{port, selected, stepped}
 use Rattle.ms622424.proofs.Access.{is-red, is-green, is-blue}

@@ -8,6 +8,14 @@ use borrow.Author.Needs.{needs}
 use Rattle.ms622424_port.proofs.range.in_range.Statement.{statement}
 use Rattle.ms622424_port.proofs.range.in_range.Tie as tie
 
+returns-7 : tie.Need-returns-7
+returns-7 c =
+    let last = c .before .before .before .before .before .before .before in
+    let a = last .before .before .before .before .before .before .before .args in
+    c .queue-in-range .ensures
+    ∙ queue-decides (view (handed (a .s) (a .queue .now) [])) (omega arith) (omega arith) (omega arith) (omega arith)
+    (omega arith) (omega arith) (omega arith) (omega arith)
+
 pub in-range-spec : {M : Type 1} → statement M
 in-range-spec =
     tie.close
@@ -19,4 +27,4 @@ in-range-spec =
     (λ c. sym (not-meets _ (λ g. omega arith)))
     (λ c. sym (not-meets _ (λ g. omega arith)))
     (λ c κs. search needs)
-    (λ c. search (queue-decides, needs)))
+    returns-7)
