@@ -92,11 +92,11 @@ module _ (s : State) (q : List ℕ) (n : ℕ) (r : right (s .fifo) q ≡ true) (
       (rw (drop-set-lt (w + 1) q w n (omega arith), ← drop-drop 1 w q)
       (every-drop isZero 1 (drop w q) (both (ltb w 65) _ r .1)))
 
-  pub put-last : length q ≡ 64 → (m : List ℕ)
+  pub put-last : {e : Entry} → unpacked n ≡ e → length q ≡ 64 → (m : List ℕ)
       → view (handed (withFifo (fifo (s .fifo .waiting + 1)) s) (set q (s .fifo .waiting) n) m)
-      ≡ complete (unpacked n) (view (handed s q m))
+      ≡ complete e (view (handed s q m))
   unfolding complete
-  put-last l m =
+  put-last u l m =
       let a = put-colours (omega arith) in
       let b = put-right ∙ sym r in
       let d = length-set q (s .fifo .waiting) n in

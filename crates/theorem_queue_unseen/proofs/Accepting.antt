@@ -2,22 +2,18 @@
 use Prim.Native.Nat.{ℕ, _^_, _<_, min}
 use mathlib.Core.Path.{_≡_, refl, sym, ap, _∙_}
 use mathlib.Core.Bool.{not}
-use mathlib.Core.List.{[], _∷_}
+use mathlib.Core.List.{[]}
 use native.Mathlib.Omega.{arith}
 use borrow.Author.Tests.{eq-eqb, ne-eqb}
 use lib.ListN.{length, take, drop}
-use Rattle.vocabulary.specs.Face.{calledBy}
 use Rattle.vocabulary.specs.Outcome.{Outcome, accepting}
-use Rattle.vocabulary.specs.Range.{below}
 use Rattle.vocabulary.specs.Run.{Accepted}
-use Rattle.vocabulary.proofs.Call.{goes-on}
 use Rattle.vocabulary.proofs.Face.{called-does}
-use Rattle.vocabulary.proofs.Range.{holds-passes}
-use Rattle.ms622424.specs.Ms622424.{Chip, ranges, InRange, withQueue, allStored, Moves, palette, initialization}
+use Rattle.ms622424.specs.Ms622424.{Chip, InRange, withQueue, allStored, Moves, palette, initialization}
 use Rattle.ms622424.specs.Ms622424.{registerAt, writable, readable, written, answers}
 use Rattle.ms622424.specs.Ms622424.{writes, reads, blanks, pixels, refusals, does, called}
-use Rattle.ms622424.proofs.InRange.{lengths-right, ranges-hold}
 use Rattle.ms622424.proofs.Moves.{moves-least}
+use Rattle.ms622424.proofs.Pixel.{pixel-does}
 use Rattle.ms622424.proofs.Read.{read-does}
 use Rattle.ms622424.proofs.Write.{write-does}
 
@@ -53,8 +49,4 @@ module _ (c : Chip) (h : InRange c) where
 
   -- a pixel
   pub pixel-accepted : (mode word : ℕ) → mode < 4 → word < 2 ^ 24 → Accepted called (pixels mode word) c
-  unfolding calledBy
-  pixel-accepted mode word hm hw =
-      let inside = holds-passes (below mode 4 ∷ below word (2 ^ 24) ∷ ranges c) (hm, (hw, ranges-hold c h)) in
-      ap (λ (o : Outcome Chip). o .refusal)
-      (sym (goes-on (refusals (pixels mode word) c) 0 c (does (pixels mode word) c) (lengths-right c h, (inside, tt))))
+  pixel-accepted mode word m w = ap (λ (o : Outcome Chip). o .refusal) (sym (pixel-does mode word c h m w refl refl refl))

@@ -1,8 +1,9 @@
--- After an accepted reset of a chip with a whole map, bytes for the palette fill the queue. Assumes nothing.
+-- After an accepted reset of a chip with a whole map, bytes for the palette fill the queue: by induction over the
+-- bytes, with 3 × waiting + counter the number of those taken. Assumes nothing.
 use Prim.Native.Nat.{ℕ, zero, suc, _+_, _*_, _<_, _≤_}
 use mathlib.Core.Path.{_≡_, refl, sym, ap, subst}
 use mathlib.Core.Bool.{Bool, true, not}
-use mathlib.Core.List.{List, [], _∷_, _++_, map}
+use mathlib.Core.List.{List, [], _∷_, map}
 use native.Mathlib.Nat.{add-zero}
 use native.Mathlib.Omega.{arith}
 use borrow.Author.Tests.{ne-eqb, ltb-true}
@@ -37,13 +38,13 @@ taken-fills (suc zero) n byte c e h f hn = search arith
 taken-fills (suc (suc zero)) n byte c e h f hn =
     record {
       writing = f .writing;
-      bytes = simp length-append (omega (arith, f .bytes));
-      placed = simp length-append (omega (arith, f .bytes, f .placed));
+      bytes = simp length-append (omega arith);
+      placed = simp length-append (omega arith);
       low = λ a l.
           rw (every-append, every-one)
-          (pair (f .low a l) (ap not (ne-eqb (c .port .address) a (λ z. omega (arith, f .bytes, f .placed)))));
+          (pair (f .low a l) (ap not (ne-eqb (c .port .address) a (λ z. omega arith))));
     }
-taken-fills (suc (suc (suc k))) n byte c e h f hn = absurd (let z : ⊥ = omega (arith, h .counter) in z)
+taken-fills (suc (suc (suc k))) n byte c e h f hn = absurd (omega arith)
 
 -- ---- bytes for the palette, one after another
 abbrev pub forPalette : List ℕ → List Call
@@ -56,7 +57,7 @@ fill-step : (n byte : ℕ) (c : Chip) → InRange c → Filling n c → n < 192 
     → Filling (n + 1) (called (writes 2 byte) c .left)
 unfolding written
 fill-step n byte c h f hn hb =
-    let space = room-left c (λ z. omega (arith, f .bytes)) in
+    let space = room-left c (λ z. omega arith) in
     subst (λ (o : Outcome Chip). Filling (n + 1) (o .left)) (sym (palette-accepted c h byte (f .writing) hb))
     (subst (λ (m : Moves). Filling (n + 1) (taken (selected (c .port)) byte (m .after))) (sym space)
     (taken-fills (c .port .counter) n byte c refl h f hn))

@@ -58,7 +58,7 @@ unfolding entryShown
 entry-high zero word k h = omega arith
 entry-high (suc zero) word k h = omega arith
 entry-high (suc (suc zero)) word k h = omega arith
-entry-high (suc (suc (suc mode))) word k h = absurd (let z : ⊥ = omega arith in z)
+entry-high (suc (suc (suc mode))) word k h = absurd (omega arith)
 
 reads-high : (mode word n : ℕ) (c : Chip) → mode < 3 → Filling n c → ReadsNoWaiting (suc mode) word c
 unfolding ReadsNoWaiting
@@ -97,7 +97,7 @@ premises-met before bytes a m b l =
     let c = after called (forPalette bytes) start in
     let hc = run-keeps called InRange called-keeps-range (forPalette bytes) start h in
     let g = fill bytes 0 start b h f (omega arith) in
-    let full : length (c .waiting) ≡ 64 = omega (arith, g .bytes, hc .counter) in
+    let full : length (c .waiting) ≡ 64 = omega arith in
     record {
       run = no-reset bytes start;
       full = full;

@@ -1,8 +1,8 @@
 -- What a call does to the settled map: a completed colour is written after all others, and nothing else changes it.
--- Assumes nothing.
+-- Moves take from the list's front what they store; the rest computes, select by select. Assumes nothing.
 use Prim.Native.Nat.{ℕ, zero, suc, _<_}
 use mathlib.Core.Path.{_≡_, refl, sym, ap, _∙_}
-use mathlib.Core.Bool.{true, _&&_}
+use mathlib.Core.Bool.{true}
 use mathlib.Core.List.{List, [], _∷_}
 use native.Mathlib.Omega.{arith}
 use borrow.Author.Tests.{ne-eqb}
@@ -42,11 +42,11 @@ complete-settled e c = all-stored-append (c .waiting) (e ∷ []) (c .map)
 taken-settled : (n byte : ℕ) (c : Chip) → n < 3
     → settled (taken (componentAt n) byte c)
     ≡ allStored (pick (eqb n 2) (completed (c .port) byte ∷ []) []) (settled c)
-unfolding settled componentAt taken complete pick allStored
+unfolding settled componentAt taken pick allStored
 taken-settled zero byte c h = refl
 taken-settled (suc zero) byte c h = refl
 taken-settled (suc (suc zero)) byte c h = complete-settled (completed (c .port) byte) c
-taken-settled (suc (suc (suc n))) byte c h = absurd (let z : ⊥ = omega arith in z)
+taken-settled (suc (suc (suc n))) byte c h = absurd (omega arith)
 
 palette-settled : (byte : ℕ) (c : Chip) → c .port .counter < 3
     → settled (taken (selected (c .port)) byte (roomMade c .after))
@@ -101,7 +101,7 @@ counts select byte c e =
 
 does-settles : (k : Call) (c : Chip) → ¬ ((isReset k ≡ true) × Accepted called k c) → refusalOf (refusals k c) ≡ 0
     → Settles k c (does k c)
-unfolding calledBy completes settled allStored pick
+unfolding calledBy completes allStored pick
 does-settles (writes select byte) c h e = write-settles select byte c (counts select byte c e)
 does-settles (reads select) c h e = read-settles select c
 does-settles (blanks slots) c h e = moves-settled slots c

@@ -1,4 +1,5 @@
--- A pixel that reads no waiting address, and a read of the table, are of the settled map. Assumes nothing.
+-- A pixel that reads no waiting address, and a read of the table, are of the settled map: what is stored elsewhere is
+-- not read, and a read finds nothing waiting. Assumes nothing.
 use Prim.Native.Nat.{ℕ, _+_, _*_, _<_}
 use mathlib.Core.Path.{_≡_, refl, sym, ap, _∙_}
 use mathlib.Core.Bool.{true, false, not}
@@ -57,10 +58,9 @@ settled-empty c e = ap (λ (es : List Entry). allStored es (c .map)) e
 
 none : {A : Type 0} (l : List A) → length l ≡ 0 → l ≡ []
 none [] e = refl
-none (x ∷ l) e = absurd (let z : ⊥ = omega arith in z)
+none (x ∷ l) e = absurd (omega arith)
 
 read-waiting : (c : Chip) → Accepted called (reads 2) c → c .waiting ≡ []
-unfolding registerAt
 read-waiting c a =
     let clear = called-clear refusals does (reads 2) c a in
     let empty : not (eqb (length (c .waiting)) 0) ≡ false = search in

@@ -1,4 +1,4 @@
--- THE THEOREM: the queue can't be seen. Assumes nothing.
+-- THE THEOREM: the queue can't be seen. A run's settled map by induction over its calls. Assumes nothing.
 use mathlib.Core.Path.{_≡_, refl, sym, ap, _∙_}
 use mathlib.Core.Bool.{true}
 use mathlib.Core.List.{List, [], _∷_}
