@@ -7,8 +7,9 @@ use lib.ListN.{length}
 use borrow.Author.Tests.{eq-eqb, ne-eqb}
 use Rattle.vocabulary.specs.Outcome.{accepting}
 use Rattle.vocabulary.specs.Component.{red, green}
-use Rattle.ms622424.specs.Ms622424.{InRange, registerAt, withPort, statusOf, statusByte, bufferByte, bufferStepped}
-use Rattle.ms622424.specs.Ms622424.{readable, answers, reads, called}
+use Rattle.ms622424.specs.declared.Port.{Port}
+use Rattle.ms622424.specs.Ms622424.{InRange, registerAt, selected, stepped, withPort, statusOf, statusByte}
+use Rattle.ms622424.specs.Ms622424.{bufferByte, bufferStepped, readable, answers, reads, called}
 use Rattle.ms622424.proofs.Access.{is-red, is-green, is-blue}
 use Rattle.ms622424.proofs.Read.{read-does, read-outside-mode, read-waiting, read-buffer, read-no-blue, not-read}
 use Rattle.ms622424_places.specs.declared.Answer.{Answer}
@@ -16,6 +17,13 @@ use Rattle.ms622424_places.specs.declared.State.{State}
 use Rattle.ms622424_places.specs.Places.{colours, handed, view, outcome, refuse, accept, Does}
 use Rattle.ms622424_places.proofs.Places.{how-many}
 use Rattle.ms622424_places.proofs.Does.{refuses, accepts}
+
+-- a palette read steps the port
+pub steps : (s : State) (a : Answer) (v : ℕ) {p : Port} → p ≡ stepped (selected (s .port)) (s .port)
+    → a ≡ accept v 0 (record { port = p; control = s .control; ident = s .ident; fifo = s .fifo })
+    → a ≡ accept v 0
+    (record { port = stepped (selected (s .port)) (s .port); control = s .control; ident = s .ident; fifo = s .fifo })
+steps s a v e f = rw e at f
 
 module _ (s : State) (q m : List ℕ) (select : ℕ) (a : Answer) (h : InRange (view (handed s q m))) where
   abbrev Served : Type 0

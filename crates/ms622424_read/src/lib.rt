@@ -38,8 +38,12 @@ fn status(s: State) -> u8
 fn read_palette(s: State, map: &[u8]) -> Answer
     requires { ⌜ (length (now map) ≡ 24576) × (s .port .address < 8192) × (s .port .counter < 3) ⌝ }
     ensures { λ r. ⌜ r ≡ accept (getD (now (map .entry)) (3 * s .port .address + s .port .counter) 0) 0
-        (record { port = stepped (selected (s .port)) (s .port); control = s .control; ident = s .ident;
-        fifo = s .fifo }) ⌝ }
+        (record {
+          port = stepped (selected (s .port)) (s .port);
+          control = s .control;
+          ident = s .ident;
+          fifo = s .fifo;
+        }) ⌝ }
 {
     let at = 3 * (s.port.address as usize) + (s.port.counter as usize);
     let p = ms622424_port::step(s.port);
@@ -73,7 +77,10 @@ pub extern "C" fn zk_b_read(s: State, select: u8, queue: &[u64], map: &[u8]) -> 
         4 => accepted(status(s), 0, s),
         5 => match counter {
             0 => {
-                let p = Port { counter: 1, ..s.port };
+                let p = Port {
+                    counter: 1,
+                    ..s.port
+                };
                 accepted(s.port.red, 0, State { port: p, ..s })
             }
             1 => accepted(s.port.green, 0, s),
@@ -81,7 +88,10 @@ pub extern "C" fn zk_b_read(s: State, select: u8, queue: &[u64], map: &[u8]) -> 
         },
         6 => accepted(16 * s.ident.board + s.ident.revision, 0, s),
         7 => {
-            let d = Control { readmode: 0, ..s.control };
+            let d = Control {
+                readmode: 0,
+                ..s.control
+            };
             accepted(0, 0, State { control: d, ..s })
         }
         _ => refused(3, s),

@@ -1,12 +1,7 @@
-use mathlib.Core.Path.{ap, _∙_}
-use Rattle.ms622424.specs.declared.Port.{Port}
-use Rattle.ms622424_places.specs.Places.{accept}
+use Rattle.ms622424_read.proofs.Arms.{steps}
 use borrow.Author.Needs.{needs}
 use Rattle.ms622424_read.proofs.read_palette.Statement.{statement}
 use Rattle.ms622424_read.proofs.read_palette.Tie as tie
-
-returns : tie.Need-returns
-returns c = c .accepted .ensures ∙ rw (c .before .before .before .step .ensures)
 
 pub read-palette-spec : {M : Type 1} → statement M
 read-palette-spec =
@@ -15,8 +10,8 @@ read-palette-spec =
     (λ c. search needs)
     (λ c. search needs)
     (λ c. search needs)
-    (λ c κs. search needs)
-    (λ c. search needs)
     (λ c. search needs)
     (λ c κs. search needs)
-    returns)
+    (λ c. search needs)
+    (λ c κs. search needs)
+    (λ c. search (steps, needs)))
