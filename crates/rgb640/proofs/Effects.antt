@@ -15,7 +15,6 @@ use Rattle.rgb640.specs.Rgb640.{Space, updateControl, paletteWrite, pale
 use Rattle.rgb640.specs.Rgb640.{indexHigh, registerAt, written, writes, reads, refusals, does, called, InRange}
 use Rattle.rgb640.proofs.Index.{space-holds, space-update, space-write, space-read}
 use Rattle.rgb640.proofs.Order.{red-latched, blue-stored, blue-told, restarts, stays}
-use Rattle.rgb640.proofs.InRange.{range-stands}
 use Rattle.rgb640.proofs.Access.{write-data, read-data}
 
 -- ---- Ports 4 and 5
@@ -66,12 +65,12 @@ module _ (c : Chip) (r : InRange c) where
     unfolding updateControl
     register-written b h =
         ap (λ (o : Outcome Chip). o .left)
-        (sym (write-data c (range-stands c r) b h (ap (λ (row : Space). row .onWrite) (space-update _ e))))
+        (sym (write-data c r b h (ap (λ (row : Space). row .onWrite) (space-update _ e))))
 
     pub register-read : (called (reads 6) c .value ≡ c .state .update) × (called (reads 6) c .left ≡ c)
     unfolding updateControl
     register-read =
-        let o = sym (read-data c (range-stands c r) (ap (λ (row : Space). row .onRead) (space-update _ e))) in
+        let o = sym (read-data c r (ap (λ (row : Space). row .onRead) (space-update _ e))) in
         (ap (λ (p : Outcome Chip). p .value) o, ap (λ (p : Outcome Chip). p .left) o)
 
   -- the third write stores at the index as it then stands, wherever red and green were latched
@@ -81,7 +80,7 @@ module _ (c : Chip) (r : InRange c) where
   unfolding paletteWrite
   third-write-here l u p b h =
       ap (λ (o : Outcome Chip). o .left .table)
-      (sym (write-data c (range-stands c r) b h (ap (λ (row : Space). row .onWrite) (space-write _ l u))))
+      (sym (write-data c r b h (ap (λ (row : Space). row .onWrite) (space-write _ l u))))
       ∙ ap (λ (d : Chip). d .table) (sym (blue-stored (c .state) (c .table) b refl p refl refl))
 
   -- the third read without auto-increment: the index and the fetched entry stay
@@ -91,8 +90,8 @@ module _ (c : Chip) (r : InRange c) where
   unfolding paletteRead
   third-read-stays l u p off =
       ap (λ (o : Outcome Chip). o .left)
-      (sym (read-data c (range-stands c r) (ap (λ (row : Space). row .onRead) (space-read _ l u))))
-      ∙ ap (λ (o : Outcome Chip). o .left) (sym (blue-told (c .state) (c .table) p refl))
+      (sym (read-data c r (ap (λ (row : Space). row .onRead) (space-read _ l u))))
+      ∙ ap (λ (o : ℕ × State). chip (o .1) (c .table)) (sym (blue-told (c .state) (c .table) p refl))
       ∙ ap (λ (s : State). chip s (c .table)) (stays reading _ (c .state) off)
 
 -- ---- The step after the last transfer

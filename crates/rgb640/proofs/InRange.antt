@@ -24,7 +24,7 @@ use Rattle.rgb640.specs.Rgb640.{colour, fetchesNothing, fetchesEntry, th
 use Rattle.rgb640.specs.Rgb640.{restarted, stepped, taken, paletteTaken, paletteTold}
 use Rattle.rgb640.specs.Rgb640.{Space, updateControl, paletteWrite, paletteRead, nowhere, spaceOf}
 use Rattle.rgb640.specs.Rgb640.{Register, indexLow, indexHigh, indexData, notServed, registerAt}
-use Rattle.rgb640.specs.Rgb640.{at, written, dataWritten, answers, dataRead}
+use Rattle.rgb640.specs.Rgb640.{at, served, written, dataWritten, answers, dataRead}
 use Rattle.rgb640.specs.Rgb640.{Call, writes, reads, resets, refusals, does, called}
 use Rattle.rgb640.proofs.Index.{space-holds}
 use Rattle.rgb640.proofs.Order.{steps, stays}
@@ -100,26 +100,19 @@ module _ (i : ℕ) (c : Chip) (r : InRange c) where
       (λ l. r, (λ l. r, (λ l. entry-range (c .state) (c .table) r, tt)))
       (λ out. r)
 
-  data-written-range : (b : ℕ) → b < 256 → InRange (dataWritten (spaceOf i .onWrite) b c .left)
-  unfolding updateControl paletteWrite paletteRead nowhere dataWritten paletteTaken
+  data-written-range : (b : ℕ) → b < 256 → InRange (dataWritten (spaceOf i) b c .left)
+  unfolding updateControl paletteWrite paletteRead nowhere served paletteTaken
   data-written-range b h =
       let n = taken threeBytes b c in
-      space-holds i (λ (row : Space). InRange (dataWritten (row .onWrite) b c .left))
-      (
-        λ l. omega arith,
-        (λ l. stepped-range (n .state) (n .table) (taken-range b c h r) _ _ (λ m k. k), (λ l. r, tt)),
-      )
-      (λ out. r)
+      let stored = stepped-range (n .state) (n .table) (taken-range b c h r) _ _ (λ m k. k) in
+      space-holds i (λ (row : Space). InRange (dataWritten row b c .left))
+      (λ l. omega arith, (λ l. stored, (λ l. r, tt))) (λ out. r)
 
-  data-read-range : InRange (dataRead (spaceOf i .onRead) c .left)
-  unfolding updateControl paletteWrite paletteRead nowhere dataRead paletteTold
+  data-read-range : InRange (dataRead (spaceOf i) c .left)
+  unfolding updateControl paletteWrite paletteRead nowhere served paletteTold
   data-read-range =
-      space-holds i (λ (row : Space). InRange (dataRead (row .onRead) c .left))
-      (
-        λ l. r,
-        (λ l. r, (λ l. stepped-range (c .state) (c .table) r _ _ (λ m k. entry-range m (c .table) k), tt)),
-      )
-      (λ out. r)
+      let told = stepped-range (c .state) (c .table) r _ _ (λ m k. entry-range m (c .table) k) in
+      space-holds i (λ (row : Space). InRange (dataRead row c .left)) (λ l. r, (λ l. r, (λ l. told, tt))) (λ out. r)
 
 module _ (c : Chip) (r : InRange c) where
   written-range : (b : ℕ) → b < 256 → (k : Register) → InRange (written k b c .left)

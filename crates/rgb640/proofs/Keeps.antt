@@ -1,48 +1,42 @@
 -- What each call leaves as it was, refused or not. Assumes nothing.
-use Prim.Native.Nat.{ℕ, _+_, _*_, _≤_, _<_}
-use mathlib.Core.Path.{_≡_, refl, sym, ap, _∙_}
+use Prim.Native.Nat.{ℕ, _+_, _*_}
+use mathlib.Core.Path.{_≡_, refl, sym}
 use mathlib.Core.Bool.{Bool, true, false}
 use lib.ListN.{getD}
 use Rattle.vocabulary.specs.Outcome.{Outcome}
 use Rattle.vocabulary.specs.Run.{Unnoticed}
-use Rattle.vocabulary.specs.Component.{put}
 use Rattle.vocabulary.proofs.Choice.{picks-first, picks-second, cases}
 use Rattle.vocabulary.proofs.Component.{put-others}
 use Rattle.vocabulary.proofs.Face.{called-holds}
 use Rattle.vocabulary.proofs.Range.{clash}
 use Rattle.vocabulary.proofs.Run.{unnoticed}
-use Rattle.rgb640.specs.Rgb640.{Chip, offset, threeBytes, transferAt, follows, taken, paletteTaken, paletteTold}
+use Rattle.rgb640.specs.Rgb640.{Chip, offset, threeBytes, follows, taken, paletteTaken}
 use Rattle.rgb640.specs.Rgb640.{Space, updateControl, paletteWrite, paletteRead, nowhere, spaceOf}
 use Rattle.rgb640.specs.Rgb640.{Register, indexLow, indexHigh, indexData, notServed, registerAt}
-use Rattle.rgb640.specs.Rgb640.{dataWritten, written, dataRead, answers}
+use Rattle.rgb640.specs.Rgb640.{Service, serves, against, served, notReached, dataWritten, written, answers}
 use Rattle.rgb640.specs.Rgb640.{Call, writes, reads, resets, refusals, does, called}
 use Rattle.rgb640.proofs.Index.{space-holds}
 
+-- what holds of every service's effect, and of a chip as given, holds of what is served
+served-holds : {A : Type 0} (P : Outcome Chip → Type 0) (x : Service A) (effect : A → Outcome Chip) (c : Chip)
+    → ((f : A) → P (effect f)) → P (notReached c) → P (served x effect c)
+unfolding served
+served-holds P (serves f) effect c h g = h f
+served-holds P against effect c h g = g
+
 -- ---- What is done where nothing is refused gives no refusal itself
-data-read-accepts : (i : ℕ) (c : Chip) → dataRead (spaceOf i .onRead) c .refusal ≡ 0
-unfolding updateControl paletteWrite paletteRead nowhere dataRead paletteTold
-data-read-accepts i c =
-    space-holds i (λ (row : Space). dataRead (row .onRead) c .refusal ≡ 0) (λ l. refl, (λ l. refl, (λ l. refl, tt)))
-    (λ out. refl)
-
-data-write-accepts : (i b : ℕ) (c : Chip) → dataWritten (spaceOf i .onWrite) b c .refusal ≡ 0
-unfolding updateControl paletteWrite paletteRead nowhere dataWritten
-data-write-accepts i b c =
-    space-holds i (λ (row : Space). dataWritten (row .onWrite) b c .refusal ≡ 0)
-    (λ l. refl, (λ l. refl, (λ l. refl, tt))) (λ out. refl)
-
 written-accepts : (k : Register) (b : ℕ) (c : Chip) → written k b c .refusal ≡ 0
 unfolding written
 written-accepts indexLow b c = refl
 written-accepts indexHigh b c = refl
-written-accepts indexData b c = data-write-accepts _ b c
+written-accepts indexData b c = served-holds (λ (o : Outcome Chip). o .refusal ≡ 0) _ _ c (λ f. refl) refl
 written-accepts notServed b c = refl
 
 answers-accepts : (k : Register) (c : Chip) → answers k c .refusal ≡ 0
 unfolding answers
 answers-accepts indexLow c = refl
 answers-accepts indexHigh c = refl
-answers-accepts indexData c = data-read-accepts _ c
+answers-accepts indexData c = served-holds (λ (o : Outcome Chip). o .refusal ≡ 0) _ _ c (λ f. refl) refl
 answers-accepts notServed c = refl
 
 pub does-accepts : (k : Call) (c : Chip) → does k c .refusal ≡ 0
@@ -82,17 +76,11 @@ index-reads-unnoticed = unnoticed called isIndexRead stays
 -- ---- The table
 -- a read changes no number of it, nor does a reset
 module _ (c : Chip) where
-  data-read-keeps : (i : ℕ) → dataRead (spaceOf i .onRead) c .left .table ≡ c .table
-  unfolding updateControl paletteWrite paletteRead nowhere dataRead paletteTold
-  data-read-keeps i =
-      space-holds i (λ (row : Space). dataRead (row .onRead) c .left .table ≡ c .table)
-      (λ l. refl, (λ l. refl, (λ l. refl, tt))) (λ out. refl)
-
   answers-keeps : (r : Register) → answers r c .left .table ≡ c .table
   unfolding answers
   answers-keeps indexLow = refl
   answers-keeps indexHigh = refl
-  answers-keeps indexData = data-read-keeps _
+  answers-keeps indexData = served-holds (λ (o : Outcome Chip). o .left .table ≡ c .table) _ _ c (λ f. refl) refl
   answers-keeps notServed = refl
 
   pub read-keeps-table : (port : ℕ) → called (reads port) c .left .table ≡ c .table
@@ -117,10 +105,10 @@ module _ (c : Chip) (n : ℕ) (f : n ≡ 3 * offset (c .state .index) → ⊥) (
       (λ e. rw (picks-first _ _ e))
       (λ e. rw (picks-second _ _ e) (put-others _ _ _ _ _ n f g h))
 
-  data-written-keeps : (i b : ℕ) → Same (dataWritten (spaceOf i .onWrite) b c .left)
-  unfolding updateControl paletteWrite paletteRead nowhere dataWritten paletteTaken
+  data-written-keeps : (i b : ℕ) → Same (dataWritten (spaceOf i) b c .left)
+  unfolding updateControl paletteWrite paletteRead nowhere served paletteTaken
   data-written-keeps i b =
-      space-holds i (λ (row : Space). Same (dataWritten (row .onWrite) b c .left))
+      space-holds i (λ (row : Space). Same (dataWritten row b c .left))
       (λ l. refl, (λ l. taken-keeps b, (λ l. refl, tt))) (λ out. refl)
 
   written-keeps : (r : Register) (b : ℕ) → Same (written r b c .left)
