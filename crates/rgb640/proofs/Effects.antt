@@ -9,6 +9,7 @@ use Rattle.vocabulary.proofs.Face.{called-holds}
 use Rattle.expand.specs.Expand.{ten}
 use Rattle.expand.proofs.Width.{ten-top}
 use Rattle.rgb640.specs.declared.State.{State}
+use Rattle.rgb640.specs.declared.Answer.{Answer}
 use Rattle.rgb640.specs.Rgb640.{Chip, chip, at, updating, next, offset, entry, writing, reading, increments}
 use Rattle.rgb640.specs.Rgb640.{threeBytes, stepped, paletteTaken}
 use Rattle.rgb640.specs.Rgb640.{Space, updateControl, paletteWrite, paletteRead, nowhere, spaceOf}
@@ -91,7 +92,7 @@ module _ (c : Chip) (r : InRange c) where
   third-read-stays l u p off =
       ap (λ (o : Outcome Chip). o .left)
       (sym (read-data c r (ap (λ (row : Space). row .onRead) (space-read _ l u))))
-      ∙ ap (λ (o : ℕ × State). chip (o .1) (c .table)) (sym (blue-told (c .state) (c .table) p refl))
+      ∙ ap (λ (a : Answer). chip (a .state) (c .table)) (sym (blue-told (c .state) (c .table) p refl refl))
       ∙ ap (λ (s : State). chip s (c .table)) (stays reading _ (c .state) off)
 
 -- ---- The step after the last transfer

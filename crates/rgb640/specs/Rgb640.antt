@@ -332,6 +332,9 @@ resetRefusals = []
 abbrev pub accept : ℕ → State → Answer
 accept v s = record { refusal = 0; value = v; state = s }
 
+abbrev pub acceptTold : ℕ × State → Answer
+acceptTold told = accept (told .0) (told .1)
+
 abbrev pub refuse : ℕ → State → Answer
 refuse n s = record { refusal = n; value = 0; state = s }
 

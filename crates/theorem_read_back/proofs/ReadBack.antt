@@ -12,13 +12,14 @@ use Rattle.expand.specs.Expand.{ten}
 use Rattle.expand.proofs.Width.{ten-below, ten-top}
 use Rattle.rgb640.specs.declared.State.{State}
 use Rattle.rgb640.specs.declared.Colour.{Colour}
+use Rattle.rgb640.specs.declared.Answer.{Answer}
 use Rattle.rgb640.specs.Rgb640.{Chip, chip, colour, at, latching, fetching, registerAt, writing, offset, entry}
 use Rattle.rgb640.specs.Rgb640.{threeBytes, restarted, paletteTaken, paletteTold, Space, spaceOf, paletteWrite}
-use Rattle.rgb640.specs.Rgb640.{paletteRead, prefetched, written, Call, writes, reads, called, InRange}
+use Rattle.rgb640.specs.Rgb640.{paletteRead, prefetched, written, acceptTold, outcome, Call, writes, reads, called, InRange}
 use Rattle.rgb640.proofs.Entry.{entry-put}
 use Rattle.rgb640.proofs.Index.{space-write, space-read, fetches-entry, fetches-nothing}
 use Rattle.rgb640.proofs.Order.{red-latched, green-latched, blue-stored, red-told, green-told, blue-told}
-use Rattle.rgb640.proofs.InRange.{range-stands, called-keeps-range}
+use Rattle.rgb640.proofs.InRange.{called-keeps-range}
 use Rattle.rgb640.proofs.Access.{write-index, write-data, read-data}
 use Rattle.theorem_read_back.specs.ReadBack.{pointing, storing, recalling, tells, ReadsBack}
 
@@ -49,12 +50,12 @@ module _ (c : Chip) (r : InRange c) (i : ℕ) (h : i < 65536) where
 
   first-half : called (writes 4 (i % 256)) c ≡ accepting 0 0 low
   unfolding registerAt written
-  first-half = sym (write-index c (range-stands c r) (i % 256) (omega arith) 4 refl refl)
+  first-half = sym (write-index c r (i % 256) (omega arith) 4 refl refl)
 
   second-half : called (writes 5 (i / 256)) low ≡ accepting 0 0 pointed
   unfolding registerAt written
   second-half =
-      sym (write-index low (range-stands low (kept _ r first-half)) (i / 256) (omega arith) 5 refl refl)
+      sym (write-index low (kept _ r first-half) (i / 256) (omega arith) 5 refl refl)
       ∙ ap (λ (j : ℕ). accepting 0 0 (chip (prefetched (c .table) (at (c .state) j 0)) (c .table))) (omega arith)
 
   module _ {d : Chip} (p : pointed ≡ d) where
@@ -70,7 +71,7 @@ module _ (s : State) (t : List ℕ) (x : InRange (chip s t)) (l : 0x4000 ≤ s .
       → called (writes 6 b) (chip s t) ≡ accepting 0 0 d
   unfolding paletteWrite
   writes-goes b h e =
-      sym (write-data (chip s t) (range-stands _ x) b h (ap (λ (row : Space). row .onWrite) (space-write _ l u)))
+      sym (write-data (chip s t) x b h (ap (λ (row : Space). row .onWrite) (space-write _ l u)))
       ∙ ap (accepting 0 0) (sym e)
 
 module _ (s : State) (t : List ℕ) (x : InRange (chip s t)) (l : 0x4000 ≤ s .index) (u : s .index < 0x4400)
@@ -106,25 +107,26 @@ module _ (s : State) (t : List ℕ) (x : InRange (chip s t)) (l : 0x4000 ≤ s .
 
 -- ---- Three bytes are read
 module _ (s : State) (t : List ℕ) (x : InRange (chip s t)) (l : 0x8000 ≤ s .index) (u : s .index < 0x8400) where
-  reads-goes : {o : Outcome Chip} → o ≡ paletteTold threeBytes (chip s t) → called (reads 6) (chip s t) ≡ o
+  reads-goes : {a : Answer} → a ≡ acceptTold (paletteTold threeBytes (chip s t)) → called (reads 6) (chip s t) ≡ outcome a t
   unfolding paletteRead
   reads-goes e =
-      sym (read-data (chip s t) (range-stands _ x) (ap (λ (row : Space). row .onRead) (space-read _ l u))) ∙ sym e
+      sym (read-data (chip s t) x (ap (λ (row : Space). row .onRead) (space-read _ l u)))
+      ∙ ap (λ (a : Answer). outcome a t) (sym e)
 
 module _ (s : State) (t : List ℕ) (x : InRange (chip s t)) (l : 0x8000 ≤ s .index) (u : s .index < 0x8400)
     (p : s .place ≡ 0) where
   red-read : called (reads 6) (chip s t) ≡ accepting (s .fetched .red / 4) 0 (chip (at s (s .index) 1) t)
-  red-read = reads-goes s t x l u (red-told s t p)
+  red-read = reads-goes s t x l u (red-told s t p refl)
 
   green-read : called (reads 6) (chip (at s (s .index) 1) t)
       ≡ accepting (s .fetched .green / 4) 0 (chip (at s (s .index) 2) t)
-  green-read = reads-goes _ t (kept _ x red-read) l u (green-told _ t refl)
+  green-read = reads-goes _ t (kept _ x red-read) l u (green-told _ t refl refl)
 
   recalls : Tells (reads 6 ∷ reads 6 ∷ reads 6 ∷ []) (chip s t)
       (tells (s .fetched .red / 4) ∷ tells (s .fetched .green / 4) ∷ tells (s .fetched .blue / 4) ∷ [])
   recalls =
       then red-read (then green-read (then
-      (reads-goes _ t (kept _ (kept _ x red-read) green-read) l u (blue-told _ t refl refl)) done))
+      (reads-goes _ t (kept _ (kept _ x red-read) green-read) l u (blue-told _ t refl refl refl)) done))
 
 -- ---- What is written reads back
 -- an entry's components, each divided by 4
