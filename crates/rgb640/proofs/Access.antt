@@ -12,8 +12,8 @@ use Rattle.vocabulary.proofs.Range.{holds-passes, fails-right}
 use Rattle.vocabulary.proofs.Call.{tried-first, stops, goes-on}
 use Rattle.rgb640.specs.declared.State.{State}
 use Rattle.rgb640.specs.Rgb640.{Chip, chip, lengths, ranges, Register, indexData, registerAt, Service, serves}
-use Rattle.rgb640.specs.Rgb640.{spaceOf, served, written, answers, noPort, isData, isAgainst}
-use Rattle.rgb640.specs.Rgb640.{accessRefusals, standingOf, writes, reads, called, InRange}
+use Rattle.rgb640.specs.Rgb640.{spaceOf, served, wrote, written, told, answers, noPort, isData, isAgainst}
+use Rattle.rgb640.specs.Rgb640.{accessRefusals, standingOf, acceptTold, outcome, writes, reads, called, InRange}
 use Rattle.rgb640.proofs.InRange.{range-holds}
 
 -- ---- In either direction
@@ -58,9 +58,9 @@ module _ (c : Chip) (r : InRange c) (b : ℕ) (h : b < 256) where
 
   pub write-data : {f : ℕ → Chip → Chip} → spaceOf (c .state .index) .onWrite ≡ serves f
       → accepting 0 0 (f b c) ≡ called (writes 6 b) c
-  unfolding calledBy registerAt written served
+  unfolding calledBy registerAt wrote served
   write-data e =
-      ap (λ (w : Service (ℕ → Chip → Chip)). served w (λ f. accepting 0 0 (f b c)) c) (sym e)
+      ap (λ (w : Service (ℕ → Chip → Chip)). accepting 0 0 (served w (λ f. f b c) c)) (sym e)
       ∙ accepts (below b 256 ∷ []) indexData _ c _ r byte-passes refl (ap isAgainst e)
 
 -- ---- An accepted read
@@ -76,9 +76,7 @@ module _ (c : Chip) (r : InRange c) where
 
   pub read-data : {f : Chip → ℕ × State} → spaceOf (c .state .index) .onRead ≡ serves f
       → accepting (f c .0) 0 (chip (f c .1) (c .table)) ≡ called (reads 6) c
-  unfolding calledBy registerAt answers served
+  unfolding calledBy registerAt told served
   read-data e =
-      ap
-      (λ (w : Service (Chip → ℕ × State)). served w (λ f. accepting (f c .0) 0 (chip (f c .1) (c .table))) c)
-      (sym e)
+      ap (λ (w : Service (Chip → ℕ × State)). outcome (acceptTold (served w (λ f. f c) (0, c .state))) (c .table)) (sym e)
       ∙ accepts [] indexData _ c _ r state-passes refl (ap isAgainst e)

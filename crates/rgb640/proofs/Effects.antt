@@ -13,7 +13,7 @@ use Rattle.rgb640.specs.declared.Answer.{Answer}
 use Rattle.rgb640.specs.Rgb640.{Chip, chip, at, updating, next, offset, entry, writing, reading, increments}
 use Rattle.rgb640.specs.Rgb640.{threeBytes, stepped, paletteTaken}
 use Rattle.rgb640.specs.Rgb640.{Space, updateControl, paletteWrite, paletteRead, nowhere, spaceOf}
-use Rattle.rgb640.specs.Rgb640.{indexHigh, registerAt, written, writes, reads, refusals, does, called, InRange}
+use Rattle.rgb640.specs.Rgb640.{indexHigh, registerAt, wrote, writes, reads, refusals, does, called, InRange}
 use Rattle.rgb640.proofs.Index.{space-holds, space-update, space-write, space-read}
 use Rattle.rgb640.proofs.Order.{red-latched, blue-stored, blue-told, restarts, stays}
 use Rattle.rgb640.proofs.Access.{write-data, read-data}
@@ -25,13 +25,13 @@ module _ (c : Chip) where
   Indexed d = d ≡ chip (at (c .state) (d .state .index) (c .state .place)) (c .table)
 
   pub low-keeps : (b : ℕ) → Indexed (called (writes 4 b) c .left)
-  unfolding registerAt written
+  unfolding registerAt wrote
   low-keeps b = called-holds refusals does (writes 4 b) c Indexed refl (λ none. refl)
 
   -- after one of port 5, an index in read space has its entry fetched
   pub high-fetches : (b : ℕ) → spaceOf (b * 256 + c .state .index % 256) ≡ paletteRead
-      → written indexHigh b c .left .state .fetched ≡ entry (offset (b * 256 + c .state .index % 256)) (c .table)
-  unfolding written paletteRead
+      → wrote indexHigh b c .state .fetched ≡ entry (offset (b * 256 + c .state .index % 256)) (c .table)
+  unfolding wrote paletteRead
   high-fetches b e = rw e
 
   -- and port 5 keeps the latches, register 0x000E and the table
@@ -48,7 +48,7 @@ module _ (c : Chip) where
       (λ out. (refl, refl, refl, refl))
 
   pub high-keeps-latches : (b : ℕ) → Latched (called (writes 5 b) c .left)
-  unfolding registerAt written
+  unfolding registerAt wrote
   high-keeps-latches b =
       called-holds refusals does (writes 5 b) c Latched (refl, refl, refl, refl) (λ none. fetches-latched _ _)
 

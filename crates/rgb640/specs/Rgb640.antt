@@ -218,39 +218,42 @@ spaceOf index = among spaces index
 abbrev pub prefetched : List ℕ → State → State
 prefetched t s = spaceOf (s .index) .onIndex t s
 
--- ---- What a write does, and what a read answers and leaves
--- an access that is refused: not reached
-abbrev pub notReached : Chip → Outcome Chip
-notReached c = accepting 0 0 c
+-- ---- What a write does
+-- what a service makes of an access, or what stands for one that is refused, which is not reached
+unfoldable pub served : {A B : Type 0} → Service A → (A → B) → B → B
+served (serves f) effect unreached = effect f
+served against effect unreached = unreached
 
-unfoldable pub served : {A : Type 0} → Service A → (A → Outcome Chip) → Chip → Outcome Chip
-served (serves f) effect c = effect f
-served against effect c = notReached c
-
--- port 6, by the space that the index lies in; no read changes the table
-abbrev pub dataWritten : Space → ℕ → Chip → Outcome Chip
-dataWritten space b c = served (space .onWrite) (λ effect. accepting 0 0 (effect b c)) c
-
-abbrev pub dataRead : Space → Chip → Outcome Chip
-dataRead space c = served (space .onRead) (λ told. accepting (told c .0) 0 (chip (told c .1) (c .table))) c
+-- port 6, by the space that the index lies in
+abbrev pub dataWritten : Space → ℕ → Chip → Chip
+dataWritten space b c = served (space .onWrite) (λ effect. effect b c) c
 
 -- port 4 sets the low byte alone; port 5 the high byte, restarts the order, keeps the latches and fetches (9.4.1)
-unfoldable pub written : Register → ℕ → Chip → Outcome Chip
-written indexLow b c =
+unfoldable pub wrote : Register → ℕ → Chip → Chip
+wrote indexLow b c = let s = c .state in chip (at s (s .index / 256 * 256 + b) (s .place)) (c .table)
+wrote indexHigh b c =
     let s = c .state in
-    accepting 0 0 (chip (at s (s .index / 256 * 256 + b) (s .place)) (c .table))
-written indexHigh b c =
-    let s = c .state in
-    accepting 0 0 (chip (prefetched (c .table) (at s (b * 256 + s .index % 256) 0)) (c .table))
-written indexData b c = dataWritten (spaceOf (c .state .index)) b c
-written notServed b c = notReached c
+    chip (prefetched (c .table) (at s (b * 256 + s .index % 256) 0)) (c .table)
+wrote indexData b c = dataWritten (spaceOf (c .state .index)) b c
+wrote notServed b c = c
+
+abbrev pub written : Register → ℕ → Chip → Outcome Chip
+written register b c = accepting 0 0 (wrote register b c)
+
+-- ---- What a read answers, and what it leaves
+abbrev pub dataRead : Space → Chip → ℕ × State
+dataRead space c = served (space .onRead) (λ tell. tell c) (0, c .state)
 
 -- ports 4 and 5 read back the index's bytes and move nothing
-unfoldable pub answers : Register → Chip → Outcome Chip
-answers indexLow c = accepting (c .state .index % 256) 0 c
-answers indexHigh c = accepting (c .state .index / 256) 0 c
-answers indexData c = dataRead (spaceOf (c .state .index)) c
-answers notServed c = notReached c
+unfoldable pub told : Register → Chip → ℕ × State
+told indexLow c = (c .state .index % 256, c .state)
+told indexHigh c = (c .state .index / 256, c .state)
+told indexData c = dataRead (spaceOf (c .state .index)) c
+told notServed c = (0, c .state)
+
+-- no read changes the table
+abbrev pub answers : Register → Chip → Outcome Chip
+answers register c = accepting (told register c .0) 0 (chip (told register c .1) (c .table))
 
 -- ---- The reset zeroes the state and keeps the table (ruling)
 abbrev pub zeroed : State
@@ -333,7 +336,7 @@ abbrev pub accept : ℕ → State → Answer
 accept v s = record { refusal = 0; value = v; state = s }
 
 abbrev pub acceptTold : ℕ × State → Answer
-acceptTold told = accept (told .0) (told .1)
+acceptTold r = accept (r .0) (r .1)
 
 abbrev pub refuse : ℕ → State → Answer
 refuse n s = record { refusal = n; value = 0; state = s }

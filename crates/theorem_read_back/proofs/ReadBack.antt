@@ -15,7 +15,7 @@ use Rattle.rgb640.specs.declared.Colour.{Colour}
 use Rattle.rgb640.specs.declared.Answer.{Answer}
 use Rattle.rgb640.specs.Rgb640.{Chip, chip, colour, at, latching, fetching, registerAt, writing, offset, entry}
 use Rattle.rgb640.specs.Rgb640.{threeBytes, restarted, paletteTaken, paletteTold, Space, spaceOf, paletteWrite}
-use Rattle.rgb640.specs.Rgb640.{paletteRead, prefetched, written, acceptTold, outcome, Call, writes, reads, called, InRange}
+use Rattle.rgb640.specs.Rgb640.{paletteRead, prefetched, wrote, acceptTold, outcome, Call, writes, reads, called, InRange}
 use Rattle.rgb640.proofs.Entry.{entry-put}
 use Rattle.rgb640.proofs.Index.{space-write, space-read, fetches-entry, fetches-nothing}
 use Rattle.rgb640.proofs.Order.{red-latched, green-latched, blue-stored, red-told, green-told, blue-told}
@@ -29,12 +29,12 @@ data Tells : List Call → Chip → List Reply → Type 0 where
   then : {k : Call} {c d : Chip} {v : ℕ} {ks : List Call} {rs : List Reply} → called k c ≡ accepting v 0 d
       → Tells ks d rs → Tells (k ∷ ks) c (tells v ∷ rs)
 
-told : {ks : List Call} {c : Chip} {rs : List Reply} → Tells ks c rs → replies called ks c ≡ rs
+heard : {ks : List Call} {c : Chip} {rs : List Reply} → Tells ks c rs → replies called ks c ≡ rs
 unfolding gathered
-told done = refl
-told (then {v = v} {ks = ks} e h) =
+heard done = refl
+heard (then {v = v} {ks = ks} e h) =
     ap (λ (o : Outcome Chip). telling o ∷ replies called ks (o .left)) e
-    ∙ ap (λ (l : List Reply). tells v ∷ l) (told h)
+    ∙ ap (λ (l : List Reply). tells v ∷ l) (heard h)
 
 -- the next chip is in range too
 kept : (k : Call) {c d : Chip} {v : ℕ} → InRange c → called k c ≡ accepting v 0 d → InRange d
@@ -49,11 +49,11 @@ module _ (c : Chip) (r : InRange c) (i : ℕ) (h : i < 65536) where
   pointed = chip (prefetched (c .table) (at (c .state) i 0)) (c .table)
 
   first-half : called (writes 4 (i % 256)) c ≡ accepting 0 0 low
-  unfolding registerAt written
+  unfolding registerAt wrote
   first-half = sym (write-index c r (i % 256) (omega arith) 4 refl refl)
 
   second-half : called (writes 5 (i / 256)) low ≡ accepting 0 0 pointed
-  unfolding registerAt written
+  unfolding registerAt wrote
   second-half =
       sym (write-index low (kept _ r first-half) (i / 256) (omega arith) 5 refl refl)
       ∙ ap (λ (j : ℕ). accepting 0 0 (chip (prefetched (c .table) (at (c .state) j 0)) (c .table))) (omega arith)
@@ -160,6 +160,6 @@ reads-back c x e r g b he hr hg hb =
     let found : entry e (put (offset i) (ten 8 r) (ten 8 g) (ten 8 b) (c .table)) ≡ colour (ten 8 r) (ten 8 g) (ten 8 b)
     = ap (λ (n : ℕ). entry e (put n (ten 8 r) (ten 8 g) (ten 8 b) (c .table))) (omega arith)
     ∙ entry-put e _ _ _ (c .table) (omega arith) (low r hr) (low g hg) (low b hb) in
-    told (points c x i (omega arith) nothing
+    heard (points c x i (omega arith) nothing
     (stores s (c .table) y (omega arith) (omega arith) refl r g b hr hg hb (recalled _ z e he _ found)))
     ∙ (let er = top r hr in let eg = top g hg in let eb = top b hb in cc)

@@ -1,11 +1,12 @@
 use mathlib.Core.Logic.{⊎-elim}
 use native.Mathlib.Omega.{arith}
-use Rattle.rgb640_read.proofs.Arms.{update-read, palette-read, not-read, table-stands}
+use Rattle.rgb640.proofs.InRange.{stands-range}
+use Rattle.rgb640_read.proofs.Arms.{update-read, palette-read, not-read}
 use borrow.Author.Needs.{needs}
 use Rattle.rgb640_read.proofs.data_read.Statement.{statement}
 use Rattle.rgb640_read.proofs.data_read.Tie as tie
 
-ruleset ends = (update-read, palette-read, table-stands, needs)
+ruleset ends = (update-read, palette-read, stands-range, needs)
 
 pub data-read-spec : {M : Type 1} → statement M
 data-read-spec =

@@ -1,10 +1,9 @@
 use Rattle.rgb640.proofs.Order.{last-place, red-told, green-told, blue-told}
-use Rattle.rgb640_read.proofs.Arms.{table-whole}
 use borrow.Author.Needs.{needs}
 use Rattle.rgb640_read.proofs.palette_read.Statement.{statement}
 use Rattle.rgb640_read.proofs.palette_read.Tie as tie
 
-ruleset ends = (last-place, red-told, green-told, blue-told, table-whole, needs)
+ruleset ends = (last-place, red-told, green-told, blue-told, needs)
 
 pub palette-read-spec : {M : Type 1} → statement M
 palette-read-spec =

@@ -1,9 +1,9 @@
-use Rattle.rgb640_read.proofs.Arms.{stopped, low-read, high-read, data-read, no-port, joined}
+use Rattle.rgb640_read.proofs.Arms.{stopped, low-read, high-read, data-read, no-port, stands}
 use borrow.Author.Needs.{needs}
 use Rattle.rgb640_read.proofs.zk_c_read.Statement.{statement}
 use Rattle.rgb640_read.proofs.zk_c_read.Tie as tie
 
-ruleset ends = (stopped, low-read, high-read, data-read, no-port, joined, needs)
+ruleset ends = (stopped, low-read, high-read, data-read, no-port, stands, needs)
 
 pub zk-c-read-spec : {M : Type 1} → statement M
 zk-c-read-spec =
