@@ -10,7 +10,7 @@ use Rattle.rgb640.specs.Rgb640.{Chip, chip, at, next, increments, Direction, wr
 use Rattle.rgb640.specs.Rgb640.{Transfer, threeBytes, follows, restarted, stepped, taken, paletteTaken, paletteTold}
 use Rattle.rgb640.specs.Rgb640.{fetchesNothing, fetchesEntry, Space, updateControl, paletteWrite, paletteRead}
 use Rattle.rgb640.specs.Rgb640.{nowhere, spaceOf, Register, indexLow, indexHigh, indexData, notServed, registerAt}
-use Rattle.rgb640.specs.Rgb640.{dataWritten, written, dataRead, answers, writes, reads, refusals, does, called}
+use Rattle.rgb640.specs.Rgb640.{served, dataWritten, wrote, dataRead, told, answers, writes, reads, refusals, does, called}
 use Rattle.rgb640.proofs.Index.{space-holds}
 use Rattle.theorem_claims.specs.MovesC.{PlaceAlone, PaletteAlone, RegisterAlone, DataWriteLeaves}
 use Rattle.theorem_claims.specs.MovesC.{DataReadLeaves, WriteLeaves, ReadLeaves}
@@ -74,17 +74,17 @@ palette-leaves order b c =
     palette-after c n _ (taken-leaves order b c)
     (stepped-leaves (n .state) (n .table) order writing (fetchesNothing (n .table)) (λ i p. refl))
 
-data-write-leaves : (b : ℕ) (c : Chip) → DataWriteLeaves c (dataWritten (spaceOf (c .state .index) .onWrite) b c .left)
-unfolding updateControl paletteWrite paletteRead nowhere dataWritten
+data-write-leaves : (b : ℕ) (c : Chip) → DataWriteLeaves c (dataWritten (spaceOf (c .state .index)) b c)
+unfolding updateControl paletteWrite paletteRead nowhere served
 data-write-leaves b c =
-    space-holds (c .state .index) (λ (row : Space). DataWriteLeaves c (dataWritten (row .onWrite) b c .left))
+    space-holds (c .state .index) (λ (row : Space). DataWriteLeaves c (dataWritten row b c))
     (λ l. record { register = λ e. refl; elsewhere = λ e. absurd (e (omega arith)) },
     (λ l. record { register = λ e. absurd (omega arith); elsewhere = λ e. palette-leaves threeBytes b c },
     (λ l. record { register = λ e. refl; elsewhere = λ e. refl }, tt)))
     (λ out. record { register = λ e. refl; elsewhere = λ e. refl })
 
-written-leaves : (r : Register) (b : ℕ) (c : Chip) → WriteLeaves r c (written r b c .left)
-unfolding written
+written-leaves : (r : Register) (b : ℕ) (c : Chip) → WriteLeaves r c (wrote r b c)
+unfolding wrote
 written-leaves indexLow b c = refl
 written-leaves indexHigh b c = fetch-leaves (c .state) (c .table) _ 0 _
 written-leaves indexData b c = data-write-leaves b c
@@ -96,20 +96,20 @@ write-leaves port b c =
     called-holds refusals does (writes port b) c (WriteLeaves r c) (kept-by-write r c) (λ none. written-leaves r b c)
 
 -- ---- a read
-data-read-leaves : (c : Chip) → DataReadLeaves c (dataRead (spaceOf (c .state .index) .onRead) c .left)
-unfolding updateControl paletteWrite paletteRead nowhere dataRead paletteTold
+data-read-leaves : (c : Chip) → DataReadLeaves c (chip (dataRead (spaceOf (c .state .index)) c .1) (c .table))
+unfolding updateControl paletteWrite paletteRead nowhere served paletteTold
 data-read-leaves c =
     let s = c .state in
     let t = c .table in
-    let told = stepped-leaves s t threeBytes reading (fetchesEntry t) (λ i p. refl) in
-    space-holds (s .index) (λ (row : Space). DataReadLeaves c (dataRead (row .onRead) c .left))
+    let steps = stepped-leaves s t threeBytes reading (fetchesEntry t) (λ i p. refl) in
+    space-holds (s .index) (λ (row : Space). DataReadLeaves c (chip (dataRead row c .1) t))
     (λ l. record { register = λ e. refl; elsewhere = refl },
     (λ l. record { register = λ e. refl; elsewhere = refl },
-    (λ l. record { register = λ e. absurd (omega arith); elsewhere = told }, tt)))
+    (λ l. record { register = λ e. absurd (omega arith); elsewhere = steps }, tt)))
     (λ out. record { register = λ e. refl; elsewhere = refl })
 
 answers-leave : (r : Register) (c : Chip) → ReadLeaves r c (answers r c .left)
-unfolding answers
+unfolding told
 answers-leave indexLow c = refl
 answers-leave indexHigh c = refl
 answers-leave indexData c = data-read-leaves c
