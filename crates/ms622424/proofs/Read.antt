@@ -15,8 +15,8 @@ use Rattle.vocabulary.specs.Face.{calledBy}
 use Rattle.vocabulary.proofs.Call.{stops, goes-on}
 use Rattle.vocabulary.proofs.Choice.{cases}
 use Rattle.ms622424.specs.declared.Port.{Port}
-use Rattle.ms622424.specs.Ms622424.{Chip, InRange, registerAt, selected, withPort, mark, statusByte, fresh}
-use Rattle.ms622424.specs.Ms622424.{buffer, bufferByte, bufferStepped, addressLow, addressHigh}
+use Rattle.ms622424.specs.Ms622424.{Chip, InRange, registerAt, selected, withPort, mark, statusOf, statusByte}
+use Rattle.ms622424.specs.Ms622424.{fresh, buffer, bufferByte, bufferStepped, addressLow, addressHigh}
 use Rattle.ms622424.specs.Ms622424.{answers, readable, readRefusals, reads, called}
 use Rattle.ms622424.proofs.InRange.{lengths-right, ranges-right}
 
@@ -31,7 +31,7 @@ green-read-keeps p = refl
 
 -- a reset chip's status: empty, neither half full nor full
 pub fresh-status : (c : Chip) → statusByte (fresh c) ≡ 24
-unfolding statusByte mark pick
+unfolding statusByte statusOf mark pick
 fresh-status c = refl
 
 unreadable : (select : ℕ) (k : Component) → (select ≡ 0 → ⊥) → (select ≡ 1 → ⊥) → (select ≡ 2 → ⊥)

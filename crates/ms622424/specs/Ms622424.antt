@@ -247,14 +247,13 @@ activeLow flag bit = pick flag 0 bit
 unfoldable pub mark : Control → ℕ
 mark d = pick (eqb (d .command / 16 % 2) 0) 32 56
 
--- SB0, SB1 the counter; SB2 empty; SB3 half or almost full; SB4 full; SB5 to SB7 are 0 (ruling)
+-- SB0, SB1 the counter; SB2 empty; SB3 half or almost full; SB4 full; SB5 to SB7 are 0 (ruling); n entries wait
+unfoldable pub statusOf : ℕ → ℕ → Control → ℕ
+statusOf counter n d =
+    counter + activeLow (eqb n 0) 4 + activeLow (leb (mark d) n) 8 + activeLow (eqb n places) 16
+
 unfoldable pub statusByte : Chip → ℕ
-statusByte c =
-    let n = length (c .waiting) in
-    c .port .counter +
-    activeLow (eqb n 0) 4 +
-    activeLow (leb (mark (c .control)) n) 8 +
-    activeLow (eqb n places) 16
+statusByte c = statusOf (c .port .counter) (length (c .waiting)) (c .control)
 
 -- Color Buffer Register: red, then green; there is no blue
 unfoldable pub bufferByte : Component → Port → ℕ
