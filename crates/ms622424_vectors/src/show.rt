@@ -1,8 +1,8 @@
 // What the vectors print: the line's label from a place on, and an answer.
 use libc::STDOUT_FILENO;
-use ms622424::Shown;
 use ms622424_places::Answer;
 use ms622424_places::State;
+use vocabulary::Shown;
 
 fn text(t: &[u8]) {
     io::write_all(STDOUT_FILENO, t);

@@ -1,10 +1,9 @@
 -- Chip A's calls: each judged by its table, and each determined by its promise. Assumes nothing.
-use Prim.Native.Nat.{ℕ, _/_, _%_}
-use mathlib.Core.Path.{_≡_, refl}
+use Prim.Native.Nat.{ℕ}
+use mathlib.Core.Path.{refl}
 use mathlib.Core.List.{List, []}
 use Rattle.vocabulary.specs.Outcome.{Outcome}
 use Rattle.vocabulary.specs.Judged.{Judged}
-use Rattle.vocabulary.proofs.Component.{word-red, word-green, word-blue}
 use Rattle.vocabulary.proofs.Judged.{judged, called-judged}
 use Rattle.hd153108.specs.declared.Clock.{Clock}
 use Rattle.hd153108.specs.declared.Answer.{Answer}
@@ -12,10 +11,8 @@ use Rattle.hd153108_tick.specs.declared.ClockAnswer.{ClockAnswer}
 use Rattle.hd153108.specs.Hd153108.{Chip, tickRefusals, tick, pixelRefusals, pixelPart, outcome, clockOutcome}
 use Rattle.hd153108.specs.Hd153108.{Call, refusals, does, called}
 use Rattle.hd153108.proofs.Keep.{does-accepts}
-use Rattle.hd153108_pixel.specs.declared.Shown.{Shown}
-use Rattle.hd153108_pixel.specs.Outcome.{showing}
-use Rattle.theorem_claims.specs.Determined.{Determined, DeterminedOf, Bytes}
-use Rattle.theorem_claims.proofs.Determined.{determined, determined-of, itself}
+use Rattle.theorem_claims.specs.Determined.{Determined}
+use Rattle.theorem_claims.proofs.Determined.{determined, itself}
 
 -- ---- judged: every call of the face, and the two that the code is lent a part for
 pub called-judged-a : (k : Call) (c : Chip) → Judged (refusals k c) 0 c (called k c)
@@ -54,29 +51,10 @@ step-determined k =
 pub tick-determined : (k : Clock) → Determined {A = ℕ × Clock} (λ x. clockOutcome (x .0) (x .1)) (tick k)
 tick-determined k = determined _ (λ o. (o .refusal, o .left)) (λ x. refl) _
 
--- the pixel's part, its refusal, and its three bytes
+-- the pixel's part, and its refusal; its three bytes are `shown-determined` (Determined)
 pub part-determined : (enable number byte : ℕ) (c : Chip)
     → Determined (λ (shown : List ℕ). shown) (pixelPart enable number byte c .left)
 part-determined enable number byte c = itself _
 
 pub refusal-determined : (k : Call) (c : Chip) → Determined (λ (refusal : ℕ). refusal) (called k c .refusal)
 refusal-determined k c = itself _
-
-shownOf : Outcome Chip → Shown
-shownOf o = record {
-  refusal = o .refusal;
-  red = o .value % 256;
-  green = o .value / 256 % 256;
-  blue = o .value / 65536;
-}
-
-shown-back : (c : Chip) (a : Shown) → Bytes (a .red) (a .green) (a .blue) → shownOf (showing a c) ≡ a
-unfolding shownOf
-shown-back c a h =
-    rw (word-red (a .red) (a .green) (a .blue) (h .red) (h .green),
-    word-green (a .red) (a .green) (a .blue) (h .red) (h .green),
-    word-blue (a .red) (a .green) (a .blue) (h .red) (h .green)) refl
-
-pub pixel-determined : (c : Chip) (d : Outcome Chip)
-    → DeterminedOf (λ (a : Shown). Bytes (a .red) (a .green) (a .blue)) (λ (a : Shown). showing a c) d
-pixel-determined c d = determined-of _ shownOf _ (shown-back c) d

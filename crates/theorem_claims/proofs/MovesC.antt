@@ -77,10 +77,13 @@ palette-leaves order b c =
 data-write-leaves : (b : ℕ) (c : Chip) → DataWriteLeaves c (dataWritten (spaceOf (c .state .index)) b c)
 unfolding updateControl paletteWrite paletteRead nowhere served
 data-write-leaves b c =
-    space-holds (c .state .index) (λ (row : Space). DataWriteLeaves c (dataWritten row b c))
-    (λ l. record { register = λ e. refl; elsewhere = λ e. absurd (e (omega arith)) },
-    (λ l. record { register = λ e. absurd (omega arith); elsewhere = λ e. palette-leaves threeBytes b c },
-    (λ l. record { register = λ e. refl; elsewhere = λ e. refl }, tt)))
+    space-holds (c .state .index) (λ (row : Space). DataWriteLeaves c (dataWritten row b c)) (
+      λ l. record { register = λ e. refl; elsewhere = λ e. absurd (e (omega arith)) },
+      (
+        λ l. record { register = λ e. absurd (omega arith); elsewhere = λ e. palette-leaves threeBytes b c },
+        (λ l. record { register = λ e. refl; elsewhere = λ e. refl }, tt),
+      ),
+    )
     (λ out. record { register = λ e. refl; elsewhere = λ e. refl })
 
 written-leaves : (r : Register) (b : ℕ) (c : Chip) → WriteLeaves r c (wrote r b c)
@@ -102,10 +105,13 @@ data-read-leaves c =
     let s = c .state in
     let t = c .table in
     let steps = stepped-leaves s t threeBytes reading (fetchesEntry t) (λ i p. refl) in
-    space-holds (s .index) (λ (row : Space). DataReadLeaves c (chip (dataRead row c .1) t))
-    (λ l. record { register = λ e. refl; elsewhere = refl },
-    (λ l. record { register = λ e. refl; elsewhere = refl },
-    (λ l. record { register = λ e. absurd (omega arith); elsewhere = steps }, tt)))
+    space-holds (s .index) (λ (row : Space). DataReadLeaves c (chip (dataRead row c .1) t)) (
+      λ l. record { register = λ e. refl; elsewhere = refl },
+      (
+        λ l. record { register = λ e. refl; elsewhere = refl },
+        (λ l. record { register = λ e. absurd (omega arith); elsewhere = steps }, tt),
+      ),
+    )
     (λ out. record { register = λ e. refl; elsewhere = refl })
 
 answers-leave : (r : Register) (c : Chip) → ReadLeaves r c (answers r c .left)

@@ -1,7 +1,8 @@
 -- "two outcomes allowed by it are equal": one shape for every call. A is all that a caller sees afterwards, the answer
 -- and each lent slice; `says` makes of it what the call's promise speaks of, and d is the promised outcome.
-use Prim.Native.Nat.{ℕ, _<_}
+use Prim.Native.Nat.{_<_}
 use mathlib.Core.Path.{_≡_}
+use Rattle.vocabulary.specs.declared.Shown.{Shown}
 use Rattle.sheet.specs.declared.Answer.{Answer}
 use Rattle.sheet.specs.declared.Answer.the-variants.{Done, Refused}
 
@@ -14,10 +15,10 @@ abbrev pub Determined : {A C : Type 0} → (A → C) → C → Type 0
 Determined {A = A} says d = DeterminedOf {A = A} (λ a. Unit) says d
 
 -- the bytes of a pixel
-pub record Bytes (r g b : ℕ) : Type 0 where
-  pub red : r < 256
-  pub green : g < 256
-  pub blue : b < 256
+pub record Bytes (a : Shown) : Type 0 where
+  pub red : a .red < 256
+  pub green : a .green < 256
+  pub blue : a .blue < 256
 
 -- a refusal that the enum holds has a number; `Refused(0)` would mean what `Done(0)` means
 abbrev pub Numbered : Answer → Type 0
