@@ -1,6 +1,6 @@
 -- A chip in range stays in range, whatever the call; pixels and timing signals leave it as it is. Assumes nothing.
-use Prim.Native.Nat.{ℕ, _+_, _*_, _/_, _%_, _^_, _<_}
-use mathlib.Core.Path.{_≡_, refl, sym, ap, subst, _∙_}
+use Prim.Native.Nat.{ℕ, _^_, _<_}
+use mathlib.Core.Path.{_≡_, refl, sym, subst, _∙_}
 use mathlib.Core.Bool.{Bool, true, false}
 use mathlib.Core.List.{List, [], _∷_, _++_}
 use native.Mathlib.Omega.{arith}
@@ -15,13 +15,12 @@ use Rattle.vocabulary.proofs.Range.{passes-holds, pair, clash}
 use Rattle.vocabulary.proofs.Every.{every-append, every-one, every-drop}
 use Rattle.vocabulary.proofs.Face.{called-clear, called-does, called-holds}
 use Rattle.vocabulary.proofs.Run.{unnoticed}
-use Rattle.ms622424.specs.declared.Port.{Port}
-use Rattle.ms622424.specs.Ms622424.{Chip, Entry, withPort, withQueue, lengths, queueLengths, inMap}
-use Rattle.ms622424.specs.Ms622424.{identRanges, ranges, InRange, selected, stepped, completed, complete, allStored, Moves, moves}
+use Rattle.ms622424.specs.Ms622424.{Chip, Entry, withPort, withQueue, lengths, queueLengths, inMap, identRanges}
+use Rattle.ms622424.specs.Ms622424.{ranges, InRange, selected, stepped, completed, complete, Moves, moves}
 use Rattle.ms622424.specs.Ms622424.{roomMade, taken, written, bufferStepped, answers, fresh, registerAt}
-use Rattle.ms622424.specs.Ms622424.{Register, addressLow, addressHigh, palette, command, status, buffer, revision}
-use Rattle.ms622424.specs.Ms622424.{initialization, none}
-use Rattle.ms622424.specs.Ms622424.{Call, writes, reads, blanks, pixels, signals, resets, refusals, does, called}
+use Rattle.ms622424.specs.Ms622424.{Register, addressLow, addressHigh, palette, command, status, buffer}
+use Rattle.ms622424.specs.Ms622424.{revision, initialization, none, Call, writes, reads, blanks, pixels}
+use Rattle.ms622424.specs.Ms622424.{signals, resets, refusals, does, called}
 use Rattle.ms622424.proofs.InRange.{in-range}
 use Rattle.ms622424.proofs.Moves.{all-stored-length, moves-are, room-cases, room-space}
 

@@ -129,9 +129,11 @@ pub data Register : Type 0 where
   initialization : Register
   none : Register
 
+abbrev pub accessModes : List Register
+accessModes = addressLow ∷ addressHigh ∷ palette ∷ command ∷ status ∷ buffer ∷ revision ∷ initialization ∷ []
+
 unfoldable pub registerAt : ℕ → Register
-registerAt select =
-    getD (addressLow ∷ addressHigh ∷ palette ∷ command ∷ status ∷ buffer ∷ revision ∷ initialization ∷ []) select none
+registerAt select = getD accessModes select none
 
 -- RGB counter, "which color (red, green, or blue, in that order) is selected"
 abbrev pub selected : Port → Component

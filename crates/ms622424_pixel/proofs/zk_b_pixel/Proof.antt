@@ -2,7 +2,7 @@ use mathlib.Core.Path.{refl}
 use native.Mathlib.Omega.{arith}
 use Rattle.vocabulary.specs.Component.{red, green, blue}
 use Rattle.vocabulary.proofs.Pixel.{shown-as}
-use Rattle.ms622424.specs.Ms622424.{InRange, pixelByte}
+use Rattle.ms622424.specs.Ms622424.{Chip, InRange, pixelByte}
 use Rattle.ms622424.proofs.InRange.{past, tried}
 use Rattle.ms622424.proofs.Pixel.{pixel-outside, pixel-does}
 use Rattle.ms622424_places.specs.Places.{handed, view}
@@ -10,9 +10,11 @@ use borrow.Author.Needs.{needs}
 use Rattle.ms622424_pixel.proofs.zk_b_pixel.Statement.{statement}
 use Rattle.ms622424_pixel.proofs.zk_b_pixel.Tie as tie
 
--- what is known past what is tried first
-known : (c : tie.Else1)
-    → let a = c .before .before .before .before .args in InRange (view (handed (a .s) (a .queue .now) (a .map .now)))
+-- the chip as the call finds it, and what is known past what is tried first
+abbrev given : tie.Start → Chip
+given c = view (handed (c .args .s) (c .args .queue .now) (c .args .map .now))
+
+known : (c : tie.Else1) → InRange (given (c .before .before .before .before))
 known c = past _ (c .before .standing-tables .ensures) (c .if1 .left)
 
 returns-2 : tie.Need-returns-2
