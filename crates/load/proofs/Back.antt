@@ -10,9 +10,9 @@ use Rattle.hd153108.specs.Hd153108.{Chip, Table, colour, overlay, size, tableOf
 use Rattle.sheet.specs.declared.Line.{Line}
 use Rattle.sheet.specs.declared.Line.the-variants.{Has, Missing}
 use Rattle.sheet.specs.Sheet.{sheetOf, good, coloursIn, values, chipLines, textOf, overFifteenIn}
-use Rattle.sheet_writer.specs.Writer.{Writable}
-use Rattle.sheet_writer.proofs.Values.{length-colours}
-use Rattle.sheet_writer.proofs.Round.{round}
+use Rattle.sheet_written.specs.Writer.{Writable}
+use Rattle.sheet_written.proofs.Values.{length-colours}
+use Rattle.sheet_written.proofs.Round.{round}
 use Rattle.load.specs.Load.{InRange, Writing, entriesOf, filled, Leaves, LoadsSheets, Same, LoadsBack}
 use Rattle.load.proofs.Writes.{table-length}
 use Rattle.load.proofs.Colours.{listed}

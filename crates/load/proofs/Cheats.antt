@@ -8,8 +8,8 @@ use Rattle.hd153108.specs.Hd153108.{Chip, chip, clock, Table, colour, overlay, 
 use Rattle.sheet.specs.declared.Line.{Line}
 use Rattle.sheet.specs.declared.Line.the-variants.{Has, Missing}
 use Rattle.sheet.specs.Sheet.{sheetOf, linesOf, overFifteenIn, redOf, greenOf, blueOf, textOf}
-use Rattle.sheet_writer.specs.Writer.{Writable}
-use Rattle.sheet_writer.proofs.Round.{round}
+use Rattle.sheet_written.specs.Writer.{Writable}
+use Rattle.sheet_written.proofs.Round.{round}
 use Rattle.calls.specs.Calls.{Call, registerCalls, callsOf}
 use Rattle.load.specs.Load.{InRange, Writing, made, refusals, AllAccepted, registerLines, entriesOf, filled}
 use Rattle.load.specs.Load.{Loads, LoadsSheets, Same}

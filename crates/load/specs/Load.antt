@@ -14,7 +14,7 @@ use Rattle.sheet.specs.declared.Line.{Line}
 use Rattle.sheet.specs.declared.Line.the-variants.{Has, Missing}
 use Rattle.sheet.specs.Sheet.{sheetOf, good, linesOf, registersOf, overlaysOf, coloursOf, redOf, greenOf, blueOf}
 use Rattle.sheet.specs.Sheet.{textOf}
-use Rattle.sheet_writer.specs.Writer.{Writable}
+use Rattle.sheet_written.specs.Writer.{Writable}
 use Rattle.calls.specs.Calls.{Call, callsOf}
 
 -- ---- "any state and tables within A's ranges and lengths"

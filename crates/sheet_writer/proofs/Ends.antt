@@ -13,19 +13,23 @@ use Rattle.vocabulary.proofs.Call.{tried-first, stops, goes-on}
 use Rattle.hd153108.specs.Hd153108.{Chip, short, outside}
 use Rattle.sheet.specs.declared.Answer.the-variants.{Done, Refused}
 use Rattle.sheet.specs.Sheet.{textOf, pasted, overFifteenIn, writeRefusals, write, outcome}
-use Rattle.sheet_writer.specs.Writer.{Writable}
-use Rattle.sheet_writer.proofs.Values.{length-text, writable}
+use Rattle.sheet_written.specs.Writer.{Writable}
+use Rattle.sheet_written.proofs.Values.{length-text, writable}
+
+abbrev tried : Chip → ℕ
+tried a = refusalOf (standing (short a) (outside a))
+
+pub takes-it : (a : Chip) → tried a ≡ 0 → overFifteenIn (a .colours) ≡ false → overFifteenIn (a .overlays) ≡ false
+    → Writable a
+takes-it a clear = let s = standing-clear _ _ clear in writable a (s .0) (s .1)
 
 module _ (a : Chip) (out : List ℕ) where
-  abbrev tried : ℕ
-  tried = refusalOf (standing (short a) (outside a))
-
   -- 1 and 9, as the chip finds them
-  pub refused-standing : {n : ℕ} → n ≡ tried → (n ≡ 0 → ⊥) → outcome (Refused n 0) out ≡ write a out
+  pub refused-standing : {n : ℕ} → n ≡ tried a → (n ≡ 0 → ⊥) → outcome (Refused n 0) out ≡ write a out
   unfolding write
   refused-standing {n} e h = tried-first (writeRefusals a out) 0 out _ _ _ n refl (λ z. z) e h
 
-  module _ (clear : tried ≡ 0) where
+  module _ (clear : tried a ≡ 0) where
     stands : (short a ≡ false) × (outside a ≡ false)
     stands = standing-clear _ _ clear
 
@@ -47,11 +51,8 @@ module _ (a : Chip) (out : List ℕ) where
         neither : (overFifteenIn (a .colours) || overFifteenIn (a .overlays)) ≡ false
         neither = rw (low, low′) refl
 
-        pub takes-it : Writable a
-        takes-it = writable a (stands .0) (stands .1) low low′
-
         long : length (textOf a) ≡ 2134
-        long = length-text a (takes-it .overlays) (takes-it .colours)
+        long = let t = takes-it a clear low low′ in length-text a (t .overlays) (t .colours)
 
         pub refused-short : length out < 2134 → outcome (Refused 7 0) out ≡ write a out
         unfolding write
