@@ -56,7 +56,14 @@ fn put_colour(out: &mut [u8], at: usize, select: u8, v: u16) -> usize
 }
 
 // An entry's calls; none where it is missing.
-pub fn put_entry(out: &mut [u8], at: usize, select: u8, entry: u8, follows: bool, kept: u16) -> usize
+pub fn put_entry(
+    out: &mut [u8],
+    at: usize,
+    select: u8,
+    entry: u8,
+    follows: bool,
+    kept: u16,
+) -> usize
     requires { ⌜ at + length (callBytes (entryCalls select entry follows (lineFor kept))) ≤ length (now out) ⌝ }
     ensures { λ r. ⌜ Wrote (now (out .entry)) at (callBytes (entryCalls select entry follows (lineFor kept))) r
         (now (out .exit)) ⌝ }

@@ -37,6 +37,12 @@ loop-holds c = record {
 array-write-kept : tie.Need-array-write-kept Inv-loop μ-loop
 array-write-kept c = let r = inside c in omega (arith, c .before .before .before .before .before .loop .inv .long)
 
+loop-again : tie.Need-loop-again Inv-loop μ-loop
+loop-again c = search reads-on
+
+returns-2 : tie.Need-returns-2 Inv-loop μ-loop
+returns-2 c = search ends-good
+
 pub read-spec : {M : Type 1} → statement M
 read-spec =
     tie.close
@@ -54,6 +60,6 @@ read-spec =
     (λ c. let r = inside c in omega arith)
     (λ c. search needs)
     (λ c. let r = inside c in omega arith)
-    (λ c. search (reads-on, needs))
-    (λ c. search (ends-good, needs))
+    loop-again
+    returns-2
     (λ c. search (ends-bad, needs)))
