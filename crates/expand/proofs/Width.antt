@@ -34,6 +34,10 @@ module _ (w v : ℕ) where
   unfolding expansion
   expansion-accepted h = sym (accepted-does 0 tt _ (refusal-none (refusals w v) (holds-passes _ (h, tt), tt)))
 
+  -- with the rule's value, however it was found
+  pub expansion-ten : {t : ℕ} → t ≡ ten w v → v < 2 ^ w → accepting t 0 tt ≡ expansion w v
+  expansion-ten e h = rw e (expansion-accepted h)
+
 -- the two powers of the rule, at widths of 5 to 10 bits
 module _ (w : ℕ) (low : 5 ≤ w) (high : w ≤ 10) where
   powers : 2 ^ (10 - w) * 2 ^ (2 * w - 10) ≡ 2 ^ w

@@ -1,43 +1,21 @@
-use mathlib.Core.Path.{sym, _∙_}
 use Rattle.log.proofs.Patterns.{said-first, said-next, said-none}
 use borrow.Author.Needs.{needs}
 use Rattle.log.proofs.choice.Statement.{statement}
 use Rattle.log.proofs.choice.Tie as tie
 
-returns : tie.Need-returns
-returns c =
-    sym (said-first _ _ _ (c .before .fits2 .ensures) (c .if1 .taken))
-
-returns-2 : tie.Need-returns-2
-returns-2 c =
-    sym (said-next _ _ _ (c .before .before .before .before .fits2 .ensures) (c .before .before .before .if1 .left)
-    ∙ said-first _ _ _ (c .before .fits3 .ensures) (c .if2 .taken))
-
-returns-3 : tie.Need-returns-3
-returns-3 c =
-    sym (said-next _ _ _ (c .before .before .before .before .before .before .before .fits2 .ensures) (c .before
-    .before .before .before .before .before .if1 .left)
-    ∙ said-next _ _ _ (c .before .before .before .before .fits3 .ensures) (c .before .before .before .if2 .left)
-    ∙ said-first _ _ _ (c .before .fits4 .ensures) (c .if3 .taken))
-
-returns-4 : tie.Need-returns-4
-returns-4 c =
-    sym (said-next _ _ _ (c .before .before .before .before .before .before .before .fits2 .ensures) (c .before
-    .before .before .before .before .before .if1 .left)
-    ∙ said-next _ _ _ (c .before .before .before .before .fits3 .ensures) (c .before .before .before .if2 .left)
-    ∙ said-next _ _ _ (c .before .fits4 .ensures) (c .if3 .left) ∙ said-none _)
+ruleset forms = (said-first, said-next, said-none, needs)
 
 pub choice-spec : {M : Type 1} → statement M
 choice-spec =
     tie.close
     (tie.spec
     (λ c. search needs)
-    (λ c κs. search needs)
-    returns
     (λ c. search needs)
-    (λ c κs. search needs)
-    returns-2
+    (λ c. search forms)
     (λ c. search needs)
-    (λ c κs. search needs)
-    returns-3
-    returns-4)
+    (λ c. search needs)
+    (λ c. search forms)
+    (λ c. search needs)
+    (λ c. search needs)
+    (λ c. search forms)
+    (λ c. search forms))
