@@ -178,3 +178,24 @@ accepted-in-order resets c a =
     let t = called-clear refusals does resets c a in
     subst (λ (o : Outcome Chip). InOrder (o .left)) (sym (called-does refusals does resets c a))
     (passes-holds (queueLengths c) (t .0) .0, refl)
+
+-- ---- What is done where nothing is refused gives no refusal itself
+access-accepts : (r : Register) (byte : ℕ) (c : Chip) → (written r byte c .refusal ≡ 0) × (answers r c .refusal ≡ 0)
+unfolding written answers
+access-accepts addressLow byte c = (refl, refl)
+access-accepts addressHigh byte c = (refl, refl)
+access-accepts palette byte c = (refl, refl)
+access-accepts command byte c = (refl, refl)
+access-accepts status byte c = (refl, refl)
+access-accepts buffer byte c = (refl, refl)
+access-accepts revision byte c = (refl, refl)
+access-accepts initialization byte c = (refl, refl)
+access-accepts none byte c = (refl, refl)
+
+pub does-accepts : (k : Call) (c : Chip) → does k c .refusal ≡ 0
+does-accepts (writes select byte) c = access-accepts (registerAt select) byte c .0
+does-accepts (reads select) c = access-accepts (registerAt select) 0 c .1
+does-accepts (blanks slots) c = refl
+does-accepts (pixels mode word) c = refl
+does-accepts (signals s) c = refl
+does-accepts resets c = refl

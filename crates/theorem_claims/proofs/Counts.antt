@@ -15,7 +15,7 @@ use Rattle.sheet.specs.declared.Line.{Line}
 use Rattle.sheet.specs.Sheet.{keyAt, front, lineText, values, textFrom, Reading, good, bad, sheetOf, linesOf, badLine}
 use Rattle.sheet.specs.Sheet.{pasted, write}
 use Rattle.calls.specs.Calls.{Call, registerCalls, callsOf, callBytes, callRefusals, sheetToCalls}
-use Rattle.load.proofs.Grammar.{Registers, good-lines}
+use Rattle.theorem_load.proofs.Grammar.{Registers, good-lines}
 
 -- an accepted call counts something
 abbrev pub Counts : Outcome (List ℕ) → Type 0

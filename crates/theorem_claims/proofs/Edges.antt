@@ -15,28 +15,28 @@ use Rattle.vocabulary.proofs.Range.{passes-holds}
 use Rattle.expand.specs.Expand.{ten}
 use Rattle.expand.proofs.Width.{expansion-accepted}
 use Rattle.ms622424.specs.Ms622424.{Chip, chip, port, control, Entry, InRange, inMap, places, fresh, registerAt}
-use Rattle.ms622424.specs.Ms622424.{readable, answers, activeLow, mark, statusByte, resets, refusals, does, called}
+use Rattle.ms622424.specs.Ms622424.{readable, answers, activeLow, mark, statusOf, statusByte, resets, refusals, does, called}
 use Rattle.ms622424.proofs.Read.{read-does}
 use Rattle.ms622424.proofs.Kept.{fresh-in-range}
 use Rattle.theorem_claims.specs.Edges.{Answers, Fresh, Status, Edges}
 
 -- the status byte at counter 0, of command bit 4 and how many wait
-statusOf : ℕ → ℕ → ℕ
-statusOf bit waiting =
+edgeStatus : ℕ → ℕ → ℕ
+edgeStatus bit waiting =
     0 +
     activeLow (eqb waiting 0) 4 +
     activeLow (leb (pick (eqb bit 0) 32 56) waiting) 8 +
     activeLow (eqb waiting 64) 16
 
-status-is : (bit waiting : ℕ) → Status bit waiting (statusOf bit waiting)
-unfolding registerAt readable answers statusByte mark statusOf
+status-is : (bit waiting : ℕ) → Status bit waiting (edgeStatus bit waiting)
+unfolding registerAt readable answers statusByte statusOf mark edgeStatus
 status-is bit waiting c h e f g = sym (read-does 4 c h 4 refl refl refl refl (rw (e, f, g) refl))
 
 module _ (bit waiting byte : ℕ) where
-  status-answers : statusOf bit waiting ≡ byte → Status bit waiting byte
+  status-answers : edgeStatus bit waiting ≡ byte → Status bit waiting byte
   status-answers e c h b k w = status-is bit waiting c h b k w ∙ ap (λ (n : ℕ). accepting n 0 c) e
 
-fresh-answers : (byte : ℕ) → statusOf 0 0 ≡ byte → Fresh byte
+fresh-answers : (byte : ℕ) → edgeStatus 0 0 ≡ byte → Fresh byte
 fresh-answers byte e c m a =
     let (short, (kept, _)) = called-clear refusals does resets c a in
     let (places, _) = passes-holds _ short in
@@ -44,7 +44,7 @@ fresh-answers byte e c m a =
     (status-answers 0 0 byte e (fresh c) (fresh-in-range c places m (passes-holds _ kept)) refl refl refl)
 
 pub edges : Edges
-unfolding ten statusOf pick
+unfolding ten edgeStatus pick
 edges = record {
   p1 = sym (expansion-accepted 8 63 (omega arith));
   p2 = sym (expansion-accepted 8 64 (omega arith));
