@@ -1,103 +1,135 @@
 -- What each call leaves as it was, refused or not. Assumes nothing.
 use Prim.Native.Nat.{ℕ, _+_, _*_, _≤_, _<_}
 use mathlib.Core.Path.{_≡_, refl, sym, ap, _∙_}
-use mathlib.Core.Bool.{false}
+use mathlib.Core.Bool.{Bool, true, false}
 use lib.ListN.{getD}
 use Rattle.vocabulary.specs.Outcome.{Outcome}
-use Rattle.vocabulary.proofs.Choice.{picks-second}
-use Rattle.vocabulary.proofs.Outcome.{left-holds}
-use Rattle.expand.specs.Expand.{ten}
-use Rattle.rgb640.specs.declared.State.{State}
-use Rattle.rgb640.specs.Rgb640.{Chip, chip, colour, at, updating, offset, put, increments}
-use Rattle.rgb640.specs.Rgb640.{Space, updateControl, paletteWrite, paletteRead, unnamed, served, reading, bitFor}
-use Rattle.rgb640.specs.Rgb640.{Port, indexLow, indexHigh, indexData, otherPort}
-use Rattle.rgb640.specs.Rgb640.{Component, red, green, blue, component, restarted, moved, taken, paletteWritten}
-use Rattle.rgb640.specs.Rgb640.{dataWritten, written, dataRead, readOut, access, write, read}
-use Rattle.rgb640.proofs.Index.{space-update, space-write, space-read}
-use Rattle.rgb640.proofs.Access.{write-data, read-data}
-use Rattle.rgb640.proofs.Entry.{put-others}
-use Rattle.rgb640.proofs.Good.{Good, good-stands}
+use Rattle.vocabulary.specs.Run.{Unnoticed}
+use Rattle.vocabulary.specs.Component.{put}
+use Rattle.vocabulary.proofs.Choice.{picks-first, picks-second, cases}
+use Rattle.vocabulary.proofs.Component.{put-others}
+use Rattle.vocabulary.proofs.Face.{called-holds}
+use Rattle.vocabulary.proofs.Range.{clash}
+use Rattle.vocabulary.proofs.Run.{unnoticed}
+use Rattle.rgb640.specs.Rgb640.{Chip, offset, threeBytes, transferAt, follows, taken, paletteTaken, paletteTold}
+use Rattle.rgb640.specs.Rgb640.{Space, updateControl, paletteWrite, paletteRead, nowhere, spaceOf}
+use Rattle.rgb640.specs.Rgb640.{Register, indexLow, indexHigh, indexData, notServed, registerAt}
+use Rattle.rgb640.specs.Rgb640.{dataWritten, written, dataRead, answers}
+use Rattle.rgb640.specs.Rgb640.{Call, writes, reads, resets, refusals, does, called}
+use Rattle.rgb640.proofs.Index.{space-holds}
 
+-- ---- What is done where nothing is refused gives no refusal itself
+data-read-accepts : (i : ℕ) (c : Chip) → dataRead (spaceOf i .onRead) c .refusal ≡ 0
+unfolding updateControl paletteWrite paletteRead nowhere dataRead paletteTold
+data-read-accepts i c =
+    space-holds i (λ (row : Space). dataRead (row .onRead) c .refusal ≡ 0) (λ l. refl, (λ l. refl, (λ l. refl, tt)))
+    (λ out. refl)
+
+data-write-accepts : (i b : ℕ) (c : Chip) → dataWritten (spaceOf i .onWrite) b c .refusal ≡ 0
+unfolding updateControl paletteWrite paletteRead nowhere dataWritten
+data-write-accepts i b c =
+    space-holds i (λ (row : Space). dataWritten (row .onWrite) b c .refusal ≡ 0)
+    (λ l. refl, (λ l. refl, (λ l. refl, tt))) (λ out. refl)
+
+written-accepts : (k : Register) (b : ℕ) (c : Chip) → written k b c .refusal ≡ 0
+unfolding written
+written-accepts indexLow b c = refl
+written-accepts indexHigh b c = refl
+written-accepts indexData b c = data-write-accepts _ b c
+written-accepts notServed b c = refl
+
+answers-accepts : (k : Register) (c : Chip) → answers k c .refusal ≡ 0
+unfolding answers
+answers-accepts indexLow c = refl
+answers-accepts indexHigh c = refl
+answers-accepts indexData c = data-read-accepts _ c
+answers-accepts notServed c = refl
+
+pub does-accepts : (k : Call) (c : Chip) → does k c .refusal ≡ 0
+does-accepts (writes port b) c = written-accepts (registerAt port) b c
+does-accepts (reads port) c = answers-accepts (registerAt port) c
+does-accepts resets c = refl
+
+-- ---- Reads of ports 4 and 5 leave their chip, so that no other call can tell whether they were made
+abbrev pub isIndex : Register → Bool
+isIndex indexLow = true
+isIndex indexHigh = true
+isIndex indexData = false
+isIndex notServed = false
+
+abbrev pub isIndexRead : Call → Bool
+isIndexRead (writes port b) = false
+isIndexRead (reads port) = isIndex (registerAt port)
+isIndexRead resets = false
+
+index-read-stays : (r : Register) (c : Chip) → isIndex r ≡ true → answers r c .left ≡ c
+unfolding answers
+index-read-stays indexLow c e = refl
+index-read-stays indexHigh c e = refl
+index-read-stays indexData c e = clash (sym e)
+index-read-stays notServed c e = clash (sym e)
+
+stays : (k : Call) (c : Chip) → isIndexRead k ≡ true → called k c .left ≡ c
+stays (writes port b) c e = clash (sym e)
+stays (reads port) c e =
+    called-holds refusals does (reads port) c (λ (d : Chip). d ≡ c) refl
+    (λ none. index-read-stays (registerAt port) c e)
+stays resets c e = clash (sym e)
+
+pub index-reads-unnoticed : Unnoticed called isIndexRead
+index-reads-unnoticed = unnoticed called isIndexRead stays
+
+-- ---- The table
+-- a read changes no number of it, nor does a reset
 module _ (c : Chip) where
-  -- a read changes no number of the table
-  data-read-keeps : (space : Space) → dataRead space c .left .table ≡ c .table
-  unfolding dataRead
-  data-read-keeps updateControl = refl
-  data-read-keeps paletteWrite = refl
-  data-read-keeps paletteRead = refl
-  data-read-keeps unnamed = refl
+  data-read-keeps : (i : ℕ) → dataRead (spaceOf i .onRead) c .left .table ≡ c .table
+  unfolding updateControl paletteWrite paletteRead nowhere dataRead paletteTold
+  data-read-keeps i =
+      space-holds i (λ (row : Space). dataRead (row .onRead) c .left .table ≡ c .table)
+      (λ l. refl, (λ l. refl, (λ l. refl, tt))) (λ out. refl)
 
-  read-out-keeps : (p : Port) → readOut p c .left .table ≡ c .table
-  unfolding readOut
-  read-out-keeps indexLow = refl
-  read-out-keeps indexHigh = refl
-  read-out-keeps indexData = data-read-keeps _
-  read-out-keeps otherPort = refl
+  answers-keeps : (r : Register) → answers r c .left .table ≡ c .table
+  unfolding answers
+  answers-keeps indexLow = refl
+  answers-keeps indexHigh = refl
+  answers-keeps indexData = data-read-keeps _
+  answers-keeps notServed = refl
 
-  pub read-keeps-table : (port : ℕ) → read port c .left .table ≡ c .table
-  unfolding access read
-  read-keeps-table port = left-holds (λ (d : Chip). d .table ≡ c .table) _ 0 c _ refl (λ e. read-out-keeps _)
+  pub read-keeps-table : (port : ℕ) → called (reads port) c .left .table ≡ c .table
+  read-keeps-table port =
+      called-holds refusals does (reads port) c (λ (d : Chip). d .table ≡ c .table) refl
+      (λ none. answers-keeps (registerAt port))
+
+  pub reset-keeps-table : called resets c .left .table ≡ c .table
+  reset-keeps-table =
+      called-holds refusals does resets c (λ (d : Chip). d .table ≡ c .table) refl (λ none. refl)
 
 -- a write changes no number outside the index's entry
-module _ (c : Chip) (i : ℕ) (f : i ≡ 3 * offset (c .state .index) → ⊥) (g : i ≡ 3 * offset (c .state .index) + 1 → ⊥)
-    (h : i ≡ 3 * offset (c .state .index) + 2 → ⊥) where
-  taken-keeps : (k : Component) (v : ℕ) → getD (taken k v c .table) i 0 ≡ getD (c .table) i 0
+module _ (c : Chip) (n : ℕ) (f : n ≡ 3 * offset (c .state .index) → ⊥) (g : n ≡ 3 * offset (c .state .index) + 1 → ⊥)
+    (h : n ≡ 3 * offset (c .state .index) + 2 → ⊥) where
+  abbrev Same : Chip → Type 0
+  Same d = getD (d .table) n 0 ≡ getD (c .table) n 0
+
+  taken-keeps : (b : ℕ) → Same (taken threeBytes b c)
   unfolding taken
-  taken-keeps red v = refl
-  taken-keeps green v = refl
-  taken-keeps blue v = put-others _ _ _ i f g h
+  taken-keeps b =
+      cases (follows threeBytes (c .state .place))
+      (λ e. rw (picks-first _ _ e))
+      (λ e. rw (picks-second _ _ e) (put-others _ _ _ _ _ n f g h))
 
-  data-written-keeps : (space : Space) (b : ℕ) → getD (dataWritten space b c .table) i 0 ≡ getD (c .table) i 0
-  unfolding dataWritten paletteWritten
-  data-written-keeps updateControl b = refl
-  data-written-keeps paletteWrite b = taken-keeps _ _
-  data-written-keeps paletteRead b = refl
-  data-written-keeps unnamed b = refl
+  data-written-keeps : (i b : ℕ) → Same (dataWritten (spaceOf i .onWrite) b c .left)
+  unfolding updateControl paletteWrite paletteRead nowhere dataWritten paletteTaken
+  data-written-keeps i b =
+      space-holds i (λ (row : Space). Same (dataWritten (row .onWrite) b c .left))
+      (λ l. refl, (λ l. taken-keeps b, (λ l. refl, tt))) (λ out. refl)
 
-  written-keeps : (p : Port) (b : ℕ) → getD (written p b c .table) i 0 ≡ getD (c .table) i 0
+  written-keeps : (r : Register) (b : ℕ) → Same (written r b c .left)
   unfolding written
   written-keeps indexLow b = refl
   written-keeps indexHigh b = refl
   written-keeps indexData b = data-written-keeps _ b
-  written-keeps otherPort b = refl
+  written-keeps notServed b = refl
 
-  pub write-keeps-others : (port b : ℕ) → getD (write port b c .left .table) i 0 ≡ getD (c .table) i 0
-  unfolding access write
+  pub write-keeps-others : (port b : ℕ) → Same (called (writes port b) c .left)
   write-keeps-others port b =
-      left-holds (λ (d : Chip). getD (d .table) i 0 ≡ getD (c .table) i 0) _ 0 c _ refl (λ e. written-keeps _ b)
-
-module _ (c : Chip) (good : Good c) where
-  -- register 0x000E is written and read, and its access moves neither index nor order
-  module _ (e : c .state .index ≡ 0x000E) where
-    pub register-written : (b : ℕ) → write 6 b c .left ≡ chip (updating (c .state) b) (c .table)
-    unfolding served dataWritten
-    register-written b =
-        ap (λ (o : Outcome Chip). o .left)
-        (sym (write-data c (good-stands c good) updateControl (space-update _ e) refl b))
-
-    pub register-read : (read 6 c .value ≡ c .state .update) × (read 6 c .left ≡ c)
-    unfolding served dataRead
-    register-read =
-        let o = sym (read-data c (good-stands c good) updateControl (space-update _ e) refl) in
-        (ap (λ (p : Outcome Chip). p .value) o, ap (λ (p : Outcome Chip). p .left) o)
-
-  -- the third write stores at the index as it then stands, wherever red and green were latched
-  pub third-write-here : 0x4000 ≤ c .state .index → c .state .index < 0x4400 → component (c .state .place) ≡ blue
-      → (b : ℕ) → write 6 b c .left .table
-      ≡ put (offset (c .state .index)) (colour (c .state .red) (c .state .green) (ten 8 b)) (c .table)
-  unfolding served dataWritten paletteWritten taken
-  third-write-here l u k b =
-      ap (λ (o : Outcome Chip). o .left .table)
-      (sym (write-data c (good-stands c good) paletteWrite (space-write _ l u) refl b))
-      ∙ ap (λ (n : Component). paletteWritten n (ten 8 b) c .table) k
-
-  -- the third read without auto-increment: the index and the fetched entry stay
-  pub third-read-stays : 0x8000 ≤ c .state .index → c .state .index < 0x8400 → component (c .state .place) ≡ blue
-      → increments (bitFor reading) (c .state .update) ≡ false
-      → read 6 c .left ≡ chip (at (c .state) (c .state .index) 0) (c .table)
-  unfolding served dataRead moved restarted
-  third-read-stays l u k off =
-      ap (λ (o : Outcome Chip). o .left)
-      (sym (read-data c (good-stands c good) paletteRead (space-read _ l u) refl))
-      ∙ ap (λ (n : Component). chip (moved reading n (c .table) (c .state)) (c .table)) k
-      ∙ ap (λ (s : State). chip s (c .table)) (picks-second _ _ off)
+      called-holds refusals does (writes port b) c Same refl (λ none. written-keeps (registerAt port) b)

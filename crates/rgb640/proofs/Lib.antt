@@ -1,8 +1,7 @@
 pub mod Access
-pub mod After
-pub mod Index
 pub mod Effects
 pub mod Entry
-pub mod Good
+pub mod InRange
+pub mod Index
 pub mod Keeps
-pub mod ReadBack
+pub mod Order

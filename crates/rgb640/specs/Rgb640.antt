@@ -1,18 +1,20 @@
--- Chip C, the palette port of the RGB640: source document 001, sections 9.1, 9.3, 9.4.1 and 10.15 with Tables 23 to
+-- Chip C, the palette port of the RGB640: source document 001, sections 9.1, 9.3, 9.4.1 and 10.15 with Tables 22 to
 -- 26, 29 and 30, and document 01, "Chip C". "Ruling" marks what they leave open.
--- From the top: the state and its ranges, ports and indexes by name, the table, the order of three accesses, what a
--- write does, what a read answers and moves, which refusal, the calls, and runs of calls.
-use Prim.Native.Nat.{ℕ, _+_, _-_, _*_, _/_, _%_}
-use mathlib.Core.Bool.{Bool, true, false, not, _&&_}
+-- From the top: the state, the ports, the index and its auto-increment, the palette, the order of transfers, the
+-- spaces of the index, what a write does, what a read answers, the reset, what a call asks, and the face.
+use Prim.Native.Nat.{ℕ, _+_, _-_, _*_, _/_, _%_, _<_}
+use mathlib.Core.Path.{_≡_}
+use mathlib.Core.Bool.{Bool, true, false, _&&_}
 use mathlib.Core.List.{List, [], _∷_, _++_}
-use lib.Dec.{leb, eqb}
-use lib.Bits.{bitAnd}
-use lib.ListN.{length, getD, set}
+use lib.Dec.{leb, ltb, eqb}
+use lib.ListN.{length, getD}
 use Rattle.vocabulary.specs.Choice.{pick}
+use Rattle.vocabulary.specs.Line.{line}
 use Rattle.vocabulary.specs.Range.{Bound, below, equal, tested, meets, fails}
 use Rattle.vocabulary.specs.Refusal.{Row, _when_, lentLength, outOfRange, noAccess, noIndex, refusalOf, standing}
-use Rattle.vocabulary.specs.Outcome.{Outcome, accepting, answered}
-use Rattle.vocabulary.specs.Reply.{Reply, telling}
+use Rattle.vocabulary.specs.Outcome.{Outcome, accepting}
+use Rattle.vocabulary.specs.Component.{Component, red, green, blue, oneOf, put}
+use Rattle.vocabulary.specs.Face.{calledBy}
 use Rattle.expand.specs.Expand.{ten}
 use Rattle.rgb640.specs.declared.Colour.{Colour}
 use Rattle.rgb640.specs.declared.State.{State}
@@ -46,77 +48,31 @@ fetching s f = state (s .index) (s .place) (s .red) (s .green) f (s .update)
 abbrev pub updating : State → ℕ → State
 updating s u = state (s .index) (s .place) (s .red) (s .green) (s .fetched) u
 
--- the ranges (document 01): an index of 16 bits, place 0 to 2, components below 1,024, any byte in register 0x000E
-abbrev pub ranges : State → List Bound
-ranges s =
-    below (s .index) 65536 ∷
-    below (s .place) 3 ∷
-    below (s .red) 1024 ∷
-    below (s .green) 1024 ∷
-    below (s .fetched .red) 1024 ∷
-    below (s .fetched .green) 1024 ∷
-    below (s .fetched .blue) 1024 ∷
-    below (s .update) 256 ∷
-    []
+-- ---- The ports (section 9.1, Table 22)
+-- of the eight, those of the index scheme: its low byte, its high byte, and data
+pub data Register : Type 0 where
+  indexLow : Register
+  indexHigh : Register
+  indexData : Register
+  notServed : Register
 
--- 1,024 entries of three numbers
-abbrev pub whole : ℕ → List Bound
-whole size = equal size 3072 ∷ []
-
--- ---- Ports and indexes by name
--- section 9.1: ports 4, 5 and 6
-pub data Port : Type 0 where
-  indexLow : Port
-  indexHigh : Port
-  indexData : Port
-  otherPort : Port
-
-unfoldable pub portOf : ℕ → Port
-portOf port =
+unfoldable pub registerAt : ℕ → Register
+registerAt port =
     getD
-    (otherPort ∷ otherPort ∷ otherPort ∷ otherPort ∷ indexLow ∷ indexHigh ∷ indexData ∷ [])
-    port otherPort
+    (notServed ∷ notServed ∷ notServed ∷ notServed ∷ indexLow ∷ indexHigh ∷ indexData ∷ [])
+    port notServed
 
--- what an index names
-pub data Space : Type 0 where
-  updateControl : Space
-  paletteWrite : Space
-  paletteRead : Space
-  unnamed : Space
-
--- a run of indexes: the first, how many, what they name
-pub data Run : Type 0 where
-  run : ℕ → ℕ → Space → Run
-
--- Table 29 and Table 30
-abbrev pub runs : List Run
-runs = run 0x000E 1 updateControl ∷ run 0x4000 1024 paletteWrite ∷ run 0x8000 1024 paletteRead ∷ []
-
--- from a number on, and so many
-abbrev pub within : ℕ → ℕ → ℕ → List Bound
-within first count n = tested (leb first n) ∷ below n (first + count) ∷ []
-
-abbrev pub named : List Run → ℕ → Space
-named [] i = unnamed
-named (run first count space ∷ rs) i = pick (meets (within first count i)) space (named rs i)
-
-unfoldable pub spaceOf : ℕ → Space
-spaceOf index = named runs index
-
--- the direction of an access, and what is served in it
+-- ---- The index and its auto-increment (sections 9.3 and 10.15)
 pub data Direction : Type 0 where
   writing : Direction
   reading : Direction
 
-unfoldable pub served : Space → Direction → Bool
-served updateControl d = true
-served paletteWrite writing = true
-served paletteWrite reading = false
-served paletteRead writing = false
-served paletteRead reading = true
-served unnamed d = false
+-- register 0x000E: bit 1 (WRAI) is for writes and bit 2 (RDAI) for reads; 0 enables auto-increment
+abbrev pub increments : Direction → ℕ → Bool
+increments writing update = eqb (line update 1) 0
+increments reading update = eqb (line update 2) 0
 
--- ---- The table
+-- ---- The palette (section 9.4)
 -- sections 9.4.1.1 and 9.4.1.2: the location's offset into the palette
 abbrev pub offset : ℕ → ℕ
 offset index = index % 1024
@@ -125,137 +81,252 @@ offset index = index % 1024
 abbrev pub next : ℕ → ℕ
 next index = index - offset index + (offset index + 1) % 1024
 
--- an entry, its numbers taken modulo 1,024
+-- an entry of the lent table, its numbers taken modulo 1,024
 unfoldable pub entry : ℕ → List ℕ → Colour
 entry e t = colour (getD t (3 * e) 0 % 1024) (getD t (3 * e + 1) 0 % 1024) (getD t (3 * e + 2) 0 % 1024)
 
--- the table with a colour at an entry
-unfoldable pub put : ℕ → Colour → List ℕ → List ℕ
-put e k t = set (set (set t (3 * e) (k .red)) (3 * e + 1) (k .green)) (3 * e + 2) (k .blue)
+-- what setting the index does besides, by its space: nothing, or its entry is fetched (section 9.4.1.2)
+abbrev pub fetchesNothing : List ℕ → State → State
+fetchesNothing t s = s
 
--- section 9.4.1.2: an index in read space has its entry fetched
-unfoldable pub prepared : Space → List ℕ → State → State
-prepared paletteRead t s = fetching s (entry (offset (s .index)) t)
-prepared paletteWrite t s = s
-prepared updateControl t s = s
-prepared unnamed t s = s
+abbrev pub fetchesEntry : List ℕ → State → State
+fetchesEntry t s = fetching s (entry (offset (s .index)) t)
+
+-- ---- The order of transfers (section 9.4.1, Table 26)
+-- A transfer: the colour under way with its byte taken in, and the byte that it tells of a fetched colour.
+pub record Transfer : Type 0 where
+  pub takes : ℕ → Colour → Colour
+  pub tells : Colour → ℕ
+
+-- a colour with another component
+abbrev pub replacing : Component → ℕ → Colour → Colour
+replacing red v f = colour v (f .green) (f .blue)
+replacing green v f = colour (f .red) v (f .blue)
+replacing blue v f = colour (f .red) (f .green) v
+
+-- eight bits of a component: written they are linearized to ten (section 9.4.1.1, the 8-bit rows of Tables 23 to 25),
+-- and read they are the ten divided by 4, floored (ruling)
+abbrev pub eightBits : Component → Transfer
+eightBits k = record {
+  takes = λ b f. replacing k (ten 8 b) f;
+  tells = λ f. oneOf k (f .red) (f .green) (f .blue) / 4;
+}
+
+-- Table 26: the order of three bytes
+abbrev pub threeBytes : List Transfer
+threeBytes = eightBits red ∷ eightBits green ∷ eightBits blue ∷ []
+
+-- All that follows is of any order. The place counts along its list; a state in range has no place beyond it.
+unfoldable pub transferAt : List Transfer → ℕ → Transfer
+transferAt order place = getD order place (eightBits blue)
+
+-- another transfer follows
+abbrev pub follows : List Transfer → ℕ → Bool
+follows order place = ltb (place + 1) (length order)
+
+-- After the last transfer the order restarts. Where register 0x000E enables it the offset steps, and what an index of
+-- that space fetches is fetched; where it does not, the index and the fetched entry stay.
+unfoldable pub restarted : Direction → (State → State) → State → State
+restarted d fetch s = pick (increments d (s .update)) (fetch (at s (next (s .index)) 0)) (at s (s .index) 0)
+
+unfoldable pub stepped : List Transfer → Direction → (State → State) → State → State
+stepped order d fetch s =
+    pick (follows order (s .place)) (at s (s .index) (s .place + 1)) (restarted d fetch s)
+
+-- a written byte is latched, and the last transfer stores the colour at the index as it then stands
+unfoldable pub taken : List Transfer → ℕ → Chip → Chip
+taken order b c =
+    let s = c .state in
+    let f = transferAt order (s .place) .takes b (colour (s .red) (s .green) 0) in
+    pick (follows order (s .place)) (chip (latching s (f .red) (f .green)) (c .table))
+    (chip s (put (offset (s .index)) (f .red) (f .green) (f .blue) (c .table)))
+
+unfoldable pub paletteTaken : List Transfer → ℕ → Chip → Chip
+paletteTaken order b c =
+    let n = taken order b c in
+    chip (stepped order writing (fetchesNothing (n .table)) (n .state)) (n .table)
+
+-- a read byte is told of the fetched entry
+unfoldable pub paletteTold : List Transfer → Chip → Outcome Chip
+paletteTold order c =
+    let s = c .state in
+    let t = c .table in
+    accepting (transferAt order (s .place) .tells (s .fetched)) 0
+    (chip (stepped order reading (fetchesEntry t) s) t)
+
+-- ---- The spaces of the index (section 9.6, Tables 29 and 30)
+-- what a data access does, or that the space is not served in its direction
+pub data Service (A : Type 0) : Type 0 where
+  serves : A → Service A
+  against : Service A
+
+-- A space is a row: its first index and how many, what a data write does there, what a data read answers and leaves,
+-- and what setting the index there fetches.
+pub record Space : Type 0 where
+  pub first : ℕ
+  pub count : ℕ
+  pub onWrite : Service (ℕ → Chip → Chip)
+  pub onRead : Service (Chip → Outcome Chip)
+  pub onIndex : List ℕ → State → State
+
+-- Table 29, 0x000E: one byte, read and written; that moves nothing (ruling)
+unfoldable pub updateControl : Space
+updateControl = record {
+  first = 0x000E;
+  count = 1;
+  onWrite = serves λ b c. chip (updating (c .state) b) (c .table);
+  onRead = serves λ c. accepting (c .state .update) 0 c;
+  onIndex = fetchesNothing;
+}
+
+-- Table 30, 0x4000 to 0x43FF: main colour palette write
+unfoldable pub paletteWrite : Space
+paletteWrite = record {
+  first = 0x4000;
+  count = 1024;
+  onWrite = serves (paletteTaken threeBytes);
+  onRead = against;
+  onIndex = fetchesNothing;
+}
+
+-- Table 30, 0x8000 to 0x83FF: main colour palette read
+unfoldable pub paletteRead : Space
+paletteRead = record {
+  first = 0x8000;
+  count = 1024;
+  onWrite = against;
+  onRead = serves (paletteTold threeBytes);
+  onIndex = fetchesEntry;
+}
+
+abbrev pub spaces : List Space
+spaces = updateControl ∷ paletteWrite ∷ paletteRead ∷ []
+
+-- an index in no row is nowhere
+unfoldable pub nowhere : Space
+nowhere = record { first = 0; count = 0; onWrite = against; onRead = against; onIndex = fetchesNothing }
+
+-- from a number on, and so many
+abbrev pub within : ℕ → ℕ → ℕ → List Bound
+within first count n = tested (leb first n) ∷ below n (first + count) ∷ []
+
+abbrev pub among : List Space → ℕ → Space
+among [] i = nowhere
+among (row ∷ rows) i = pick (meets (within (row .first) (row .count) i)) row (among rows i)
+
+unfoldable pub spaceOf : ℕ → Space
+spaceOf index = among spaces index
 
 abbrev pub prefetched : List ℕ → State → State
-prefetched t s = prepared (spaceOf (s .index)) t s
-
--- ---- The order of three accesses
--- Table 26: red, green, blue
-pub data Component : Type 0 where
-  red : Component
-  green : Component
-  blue : Component
-
-unfoldable pub component : ℕ → Component
-component place = getD (red ∷ green ∷ []) place blue
-
--- section 10.15, register 0x000E: bit 1 (WRAI) for writes and bit 2 (RDAI) for reads; 0 enables auto-increment
-abbrev pub bitFor : Direction → ℕ
-bitFor writing = 2
-bitFor reading = 4
-
-abbrev pub increments : ℕ → ℕ → Bool
-increments bit update = eqb (bitAnd update bit) 0
-
--- after the third access the order restarts; where the bit enables it the offset steps, and in read space that entry
--- is fetched; where it does not, the index and the fetched entry stay
-unfoldable pub restarted : ℕ → List ℕ → State → State
-restarted bit t s =
-    pick (increments bit (s .update)) (prefetched t (at s (next (s .index)) 0)) (at s (s .index) 0)
-
-unfoldable pub moved : Direction → Component → List ℕ → State → State
-moved d red t s = at s (s .index) 1
-moved d green t s = at s (s .index) 2
-moved d blue t s = restarted (bitFor d) t s
+prefetched t s = spaceOf (s .index) .onIndex t s
 
 -- ---- What a write does
--- red and green are latched, and the third write stores all three at the index as it then stands
-unfoldable pub taken : Component → ℕ → Chip → Chip
-taken red v c = chip (latching (c .state) v (c .state .green)) (c .table)
-taken green v c = chip (latching (c .state) (c .state .red) v) (c .table)
-taken blue v c =
-    let s = c .state in
-    chip s (put (offset (s .index)) (colour (s .red) (s .green) v) (c .table))
+-- an access that is refused: not reached
+abbrev pub notReached : Chip → Outcome Chip
+notReached c = accepting 0 0 c
 
-unfoldable pub paletteWritten : Component → ℕ → Chip → Chip
-paletteWritten k v c = let n = taken k v c in chip (moved writing k (n .table) (n .state)) (n .table)
-
--- port 6: a byte to the palette is linearized to ten bits (section 9.4.1.1, the 8-bit rows of Tables 23 to 25);
--- register 0x000E takes all eight bits and moves nothing (ruling)
-unfoldable pub dataWritten : Space → ℕ → Chip → Chip
-dataWritten updateControl b c = chip (updating (c .state) b) (c .table)
-dataWritten paletteWrite b c = paletteWritten (component (c .state .place)) (ten 8 b) c
-dataWritten paletteRead b c = c
-dataWritten unnamed b c = c
+unfoldable pub dataWritten : Service (ℕ → Chip → Chip) → ℕ → Chip → Outcome Chip
+dataWritten (serves effect) b c = accepting 0 0 (effect b c)
+dataWritten against b c = notReached c
 
 -- port 4 sets the low byte alone; port 5 the high byte, restarts the order, keeps the latches and fetches (9.4.1)
-unfoldable pub written : Port → ℕ → Chip → Chip
-written indexLow b c = let s = c .state in chip (at s (s .index / 256 * 256 + b) (s .place)) (c .table)
+unfoldable pub written : Register → ℕ → Chip → Outcome Chip
+written indexLow b c =
+    let s = c .state in
+    accepting 0 0 (chip (at s (s .index / 256 * 256 + b) (s .place)) (c .table))
 written indexHigh b c =
     let s = c .state in
-    chip (prefetched (c .table) (at s (b * 256 + s .index % 256) 0)) (c .table)
-written indexData b c = dataWritten (spaceOf (c .state .index)) b c
-written otherPort b c = c
+    accepting 0 0 (chip (prefetched (c .table) (at s (b * 256 + s .index % 256) 0)) (c .table))
+written indexData b c = dataWritten (spaceOf (c .state .index) .onWrite) b c
+written notServed b c = notReached c
 
--- ---- What a read answers, and what it moves
-abbrev pub part : Component → Colour → ℕ
-part red f = f .red
-part green f = f .green
-part blue f = f .blue
-
--- port 6: of the palette the fetched entry's component divided by 4, floored (ruling), by the place in the order
-unfoldable pub dataRead : Space → Chip → Outcome Chip
-dataRead updateControl c = accepting (c .state .update) 0 c
-dataRead paletteRead c =
-    let s = c .state in
-    let k = component (s .place) in
-    accepting (part k (s .fetched) / 4) 0 (chip (moved reading k (c .table) s) (c .table))
-dataRead paletteWrite c = accepting 0 0 c
-dataRead unnamed c = accepting 0 0 c
+-- ---- What a read answers, and what it leaves
+unfoldable pub dataRead : Service (Chip → Outcome Chip) → Chip → Outcome Chip
+dataRead (serves answer) c = answer c
+dataRead against c = notReached c
 
 -- ports 4 and 5 read back the index's bytes and move nothing
-unfoldable pub readOut : Port → Chip → Outcome Chip
-readOut indexLow c = accepting (c .state .index % 256) 0 c
-readOut indexHigh c = accepting (c .state .index / 256) 0 c
-readOut indexData c = dataRead (spaceOf (c .state .index)) c
-readOut otherPort c = accepting 0 0 c
+unfoldable pub answers : Register → Chip → Outcome Chip
+answers indexLow c = accepting (c .state .index % 256) 0 c
+answers indexHigh c = accepting (c .state .index / 256) 0 c
+answers indexData c = dataRead (spaceOf (c .state .index) .onRead) c
+answers notServed c = notReached c
 
--- ---- Which refusal (document 01)
--- 1: the lent table hasn't its length; 9: the state is outside its ranges; 3: the port is not 4 to 6;
--- 4: a data access at an index that is not named, or against its direction
-abbrev pub refusals : Direction → ℕ → Chip → List Row
-refusals d port c =
-    (lentLength when fails (whole (length (c .table)))) ∷
-    (outOfRange when fails (ranges (c .state))) ∷
-    (noAccess when fails (within 4 3 port)) ∷
-    (noIndex when eqb port 6 && not (served (spaceOf (c .state .index)) d)) ∷
-    []
-
--- what write and read try first
-abbrev pub standingOf : ℕ → State → ℕ
-standingOf size s = refusalOf (standing (fails (whole size)) (fails (ranges s)))
-
--- ---- The calls
--- an access of a port: refused, or what it does
-unfoldable pub access : Direction → ℕ → Chip → Outcome Chip → Outcome Chip
-access d port c done = answered (refusalOf (refusals d port c)) c done
-
-unfoldable pub write : ℕ → ℕ → Chip → Outcome Chip
-write port b c = access writing port c (accepting 0 0 (written (portOf port) b c))
-
-unfoldable pub read : ℕ → Chip → Outcome Chip
-read port c = access reading port c (readOut (portOf port) c)
-
--- a reset reads nothing and is never refused; it zeroes the state and keeps the table (ruling)
+-- ---- The reset zeroes the state and keeps the table (ruling)
 abbrev pub zeroed : State
 zeroed = state 0 0 0 0 (colour 0 0 0) 0
 
-unfoldable pub reset : Chip → Outcome Chip
-reset c = answered (refusalOf []) c (accepting 0 0 (chip zeroed (c .table)))
+-- ---- What a call asks (document 01)
+-- 1: 1,024 entries of three numbers
+abbrev pub whole : ℕ → List Bound
+whole size = equal size 3072 ∷ []
+
+-- 9: an index of 16 bits, a place in the order, components below 1,024, any byte in register 0x000E
+abbrev pub stateRanges : State → List Bound
+stateRanges s =
+    below (s .index) 65536 ∷
+    below (s .place) (length threeBytes) ∷
+    below (s .red) 1024 ∷
+    below (s .green) 1024 ∷
+    below (s .fetched .red) 1024 ∷
+    below (s .fetched .green) 1024 ∷
+    below (s .fetched .blue) 1024 ∷
+    below (s .update) 256 ∷
+    []
+
+abbrev pub lengths : Chip → List Bound
+lengths c = whole (length (c .table))
+
+abbrev pub ranges : Chip → List Bound
+ranges c = stateRanges (c .state)
+
+abbrev pub short : Chip → Bool
+short c = fails (lengths c)
+
+abbrev pub outside : Chip → Bool
+outside c = fails (ranges c)
+
+-- what write and read try first
+abbrev pub standingOf : ℕ → State → ℕ
+standingOf size s = refusalOf (standing (fails (whole size)) (fails (stateRanges s)))
+
+-- 3: the port is not 4 to 6
+abbrev pub noPort : Register → Bool
+noPort notServed = true
+noPort indexLow = false
+noPort indexHigh = false
+noPort indexData = false
+
+-- 4: a data access at an index that is nowhere, or against its space's direction
+abbrev pub isData : Register → Bool
+isData indexData = true
+isData indexLow = false
+isData indexHigh = false
+isData notServed = false
+
+abbrev pub isAgainst : {A : Type 0} → Service A → Bool
+isAgainst (serves f) = false
+isAgainst against = true
+
+-- an access of a port, of what it is given besides and what the index's space does in its direction
+abbrev pub accessRefusals : {A : Type 0} → List Bound → Register → Service A → Chip → List Row
+accessRefusals given register service c =
+    (lentLength when short c) ∷
+    (outOfRange when fails (given ++ ranges c)) ∷
+    (noAccess when noPort register) ∷
+    (noIndex when isData register && isAgainst service) ∷
+    []
+
+abbrev pub writeRefusals : ℕ → ℕ → Chip → List Row
+writeRefusals port byte c =
+    accessRefusals (below byte 256 ∷ []) (registerAt port) (spaceOf (c .state .index) .onWrite) c
+
+abbrev pub readRefusals : ℕ → Chip → List Row
+readRefusals port c = accessRefusals [] (registerAt port) (spaceOf (c .state .index) .onRead) c
+
+-- a reset reads nothing and is never refused
+abbrev pub resetRefusals : List Row
+resetRefusals = []
 
 -- a call's answer, and what it left: that answer, with the table afterwards
 abbrev pub accept : ℕ → State → Answer
@@ -264,32 +335,38 @@ accept v s = record { refusal = 0; value = v; state = s }
 abbrev pub refuse : ℕ → State → Answer
 refuse n s = record { refusal = n; value = 0; state = s }
 
-abbrev pub leaving : Answer → List ℕ → Outcome Chip
-leaving a t = record { refusal = a .refusal; value = a .value; count = 0; line = 0; left = chip (a .state) t }
+abbrev pub outcome : Answer → List ℕ → Outcome Chip
+outcome a t = record { refusal = a .refusal; value = a .value; count = 0; line = 0; left = chip (a .state) t }
 
--- ---- Runs of calls
+-- ---- The face
 pub data Call : Type 0 where
+  -- port and byte
   writes : ℕ → ℕ → Call
+  -- port
   reads : ℕ → Call
   resets : Call
 
+abbrev pub refusals : Call → Chip → List Row
+refusals (writes port byte) c = writeRefusals port byte c
+refusals (reads port) c = readRefusals port c
+refusals resets c = resetRefusals
+
+abbrev pub does : Call → Chip → Outcome Chip
+does (writes port byte) c = written (registerAt port) byte c
+does (reads port) c = answers (registerAt port) c
+does resets c = accepting 0 0 (chip zeroed (c .table))
+
 abbrev pub called : Call → Chip → Outcome Chip
-called (writes port b) c = write port b c
-called (reads port) c = read port c
-called resets c = reset c
+called k c = calledBy refusals does k c
 
--- what each call of a run answers
-abbrev pub replies : List Call → Chip → List Reply
-replies [] c = []
-replies (k ∷ ks) c = telling (called k c) ∷ replies ks (called k c .left)
-
--- section 9.4.1.2: the low byte of the index is loaded before the high byte
-abbrev pub pointing : ℕ → List Call
-pointing index = writes 4 (index % 256) ∷ writes 5 (index / 256) ∷ []
-
--- an entry is written at 0x4000 plus its offset, and read at 0x8000 plus it
-abbrev pub storing : ℕ → ℕ → ℕ → ℕ → List Call
-storing e r g b = pointing (0x4000 + e) ++ (writes 6 r ∷ writes 6 g ∷ writes 6 b ∷ [])
-
-abbrev pub recalling : ℕ → List Call
-recalling e = pointing (0x8000 + e) ++ (reads 6 ∷ reads 6 ∷ reads 6 ∷ [])
+-- a chip with a whole table and a state in its ranges
+pub record InRange (c : Chip) : Type 0 where
+  pub table-whole : length (c .table) ≡ 3072
+  pub index-low : c .state .index < 65536
+  pub place-low : c .state .place < length threeBytes
+  pub red-low : c .state .red < 1024
+  pub green-low : c .state .green < 1024
+  pub fetched-red-low : c .state .fetched .red < 1024
+  pub fetched-green-low : c .state .fetched .green < 1024
+  pub fetched-blue-low : c .state .fetched .blue < 1024
+  pub update-low : c .state .update < 256

@@ -1,7 +1,7 @@
 // Chip C, the palette port of the RGB640: what a write and a read share. The answers, the ranges that both try first,
-// the fetch and the step after a third access.
+// the fetch and the step of the offset.
 //
-// Source document 001, sections 9.4.1 and 10.15, and document 01, "Chip C", decide; the rules are in rgb640's
+// Source document 001, sections 9.3 and 9.4.1, and document 01, "Chip C", decide; the rules are in rgb640's
 // specs/Rgb640.antt. Not modelled: as there.
 use rgb640::Answer;
 use rgb640::Colour;
@@ -9,7 +9,7 @@ use rgb640::State;
 ghost use mathlib.Core.Path.{_≡_};
 ghost use lib.ListN.{length};
 ghost use Rattle.vocabulary.specs.Range.{meets};
-ghost use Rattle.rgb640.specs.Rgb640.{ranges, standingOf, offset, entry, prefetched, restarted, accept, refuse};
+ghost use Rattle.rgb640.specs.Rgb640.{stateRanges, standingOf, next, fetchesEntry, prefetched, accept, refuse};
 
 // A call that is refused, and one that is accepted.
 pub fn refused(n: u8, s: State) -> Answer
@@ -32,8 +32,8 @@ pub fn accepted(v: u8, s: State) -> Answer
     }
 }
 
-fn good(s: State) -> bool
-    ensures { λ r. ⌜ r ≡ meets (ranges s) ⌝ }
+fn in_range(s: State) -> bool
+    ensures { λ r. ⌜ r ≡ meets (stateRanges s) ⌝ }
 {
     let f = s.fetched;
     if 3 <= s.place {
@@ -64,54 +64,43 @@ pub fn standing_of(s: State, size: usize) -> u8
     if size != 3072 {
         return 1;
     }
-    if !good(s) {
+    if !in_range(s) {
         return 9;
     }
     0
 }
 
-// The entry of an index, its numbers taken modulo 1,024.
-fn entry_at(index: u16, table: &[u16]) -> Colour
-    requires { ⌜ length (now table) ≡ 3072 ⌝ }
-    ensures { λ r. ⌜ r ≡ entry (offset index) (now (table .entry)) ⌝ }
+// The index with its offset stepped.
+pub fn next_index(index: u16) -> u16
+    ensures { λ r. ⌜ r ≡ next index ⌝ }
 {
-    let at = 3 * ((index % 1024) as usize);
-    Colour {
+    index - index % 1024 + (index % 1024 + 1) % 1024
+}
+
+// The index's entry is fetched, its numbers taken modulo 1,024.
+pub fn fetch(s: State, table: &[u16]) -> State
+    requires { ⌜ length (now table) ≡ 3072 ⌝ }
+    ensures { λ r. ⌜ r ≡ fetchesEntry (now (table .entry)) s ⌝ }
+{
+    let at = 3 * ((s.index % 1024) as usize);
+    let f = Colour {
         red: table[at] % 1024,
         green: table[at + 1] % 1024,
         blue: table[at + 2] % 1024,
-    }
+    };
+    let mut n = s;
+    n.fetched = f;
+    n
 }
 
-// An index in read space has its entry fetched.
+// What setting the index fetches, by its space.
 pub fn prefetch(s: State, table: &[u16]) -> State
     requires { ⌜ length (now table) ≡ 3072 ⌝ }
     ensures { λ r. ⌜ r ≡ prefetched (now (table .entry)) s ⌝ }
 {
     let index = s.index;
     match index {
-        0x8000..=0x83FF => {
-            let f = entry_at(index, table);
-            let mut n = s;
-            n.fetched = f;
-            n
-        }
+        0x8000..=0x83FF => fetch(s, table),
         _ => s,
     }
-}
-
-// The state after a third access: bit is the one of register 0x000E that, where it is 1, disables auto-increment.
-pub fn restart(s: State, bit: u8, table: &[u16]) -> State
-    requires { ⌜ length (now table) ≡ 3072 ⌝ }
-    ensures { λ r. ⌜ r ≡ restarted bit (now (table .entry)) s ⌝ }
-{
-    let index = s.index;
-    let update = s.update;
-    let mut n = s;
-    n.place = 0;
-    if update & bit != 0 {
-        return n;
-    }
-    n.index = index - index % 1024 + (index % 1024 + 1) % 1024;
-    prefetch(n, table)
 }

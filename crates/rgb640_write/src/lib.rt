@@ -1,24 +1,24 @@
 // Chip C, the palette port of the RGB640: a byte written to a port.
 //
-// Source document 001, sections 9.1, 9.4.1 and 10.15, and document 01, "Chip C", decide; the rule is `write` of
-// rgb640's specs/Rgb640.antt. Not modelled: as there.
+// Source document 001, sections 9.1, 9.4.1 and 10.15, and document 01, "Chip C", decide; the rule is `called (writes ..)`
+// of rgb640's specs/Rgb640.antt. Not modelled: as there.
 use rgb640::Answer;
 use rgb640::State;
 use rgb640_port::accepted;
+use rgb640_port::next_index;
 use rgb640_port::prefetch;
 use rgb640_port::refused;
-use rgb640_port::restart;
 use rgb640_port::standing_of;
 ghost use mathlib.Core.Path.{_≡_};
 ghost use lib.ListN.{length};
-ghost use Rattle.vocabulary.specs.Range.{Holds};
-ghost use Rattle.rgb640.specs.Rgb640.{chip, colour, ranges, standingOf, paletteWrite, offset, put, dataWritten};
-ghost use Rattle.rgb640.specs.Rgb640.{leaving, write};
+ghost use Rattle.vocabulary.specs.Component.{put};
+ghost use Rattle.rgb640.specs.Rgb640.{chip, offset, writing, threeBytes, restarted, paletteTaken, standingOf, outcome};
+ghost use Rattle.rgb640.specs.Rgb640.{writes, called, InRange};
 
 // A colour stored at the entry of an index.
 fn store(index: u16, red: u16, green: u16, blue: u16, table: &mut [u16])
     requires { ⌜ length (now table) ≡ 3072 ⌝ }
-    ensures { λ _. ⌜ now (table .exit) ≡ put (offset index) (colour red green blue) (now (table .entry)) ⌝ }
+    ensures { λ _. ⌜ now (table .exit) ≡ put (offset index) red green blue (now (table .entry)) ⌝ }
 {
     let at = 3 * ((index % 1024) as usize);
     table[at] = red;
@@ -26,10 +26,23 @@ fn store(index: u16, red: u16, green: u16, blue: u16, table: &mut [u16])
     table[at + 2] = blue;
 }
 
+// The state after the last transfer: bit 1 of register 0x000E, where it is 1, stops the index.
+fn restart(s: State) -> State
+    ensures { λ r. ⌜ r ≡ restarted writing (λ n. n) s ⌝ }
+{
+    let mut n = s;
+    n.place = 0;
+    if s.update & 2 != 0 {
+        return n;
+    }
+    n.index = next_index(s.index);
+    n
+}
+
 // A byte to the palette, by its place in the order.
 fn palette_write(s: State, byte: u8, table: &mut [u16]) -> State
-    requires { ⌜ (length (now table) ≡ 3072) × Holds (ranges s) ⌝ }
-    ensures { λ r. ⌜ chip r (now (table .exit)) ≡ dataWritten paletteWrite byte (chip s (now (table .entry))) ⌝ }
+    requires { ⌜ InRange (chip s (now table)) ⌝ }
+    ensures { λ r. ⌜ chip r (now (table .exit)) ≡ paletteTaken threeBytes byte (chip s (now (table .entry))) ⌝ }
 {
     let place = s.place;
     let v = expand::eight(byte);
@@ -47,7 +60,7 @@ fn palette_write(s: State, byte: u8, table: &mut [u16]) -> State
         }
         _ => {
             store(s.index, s.red, s.green, v, table);
-            restart(s, 2, table)
+            restart(s)
         }
     }
 }
@@ -55,7 +68,7 @@ fn palette_write(s: State, byte: u8, table: &mut [u16]) -> State
 // A write of port 6, where the table and the state stand.
 fn data_write(s: State, byte: u8, table: &mut [u16]) -> Answer
     requires { ⌜ standingOf (length (now table)) s ≡ 0 ⌝ }
-    ensures { λ r. ⌜ leaving r (now (table .exit)) ≡ write 6 byte (chip s (now (table .entry))) ⌝ }
+    ensures { λ r. ⌜ outcome r (now (table .exit)) ≡ called (writes 6 byte) (chip s (now (table .entry))) ⌝ }
 {
     let index = s.index;
     match index {
@@ -72,7 +85,7 @@ fn data_write(s: State, byte: u8, table: &mut [u16]) -> Answer
 // A byte written to a port.
 #[no_mangle]
 pub extern "C" fn zk_c_write(s: State, port: u8, byte: u8, table: &mut [u16]) -> Answer
-    ensures { λ r. ⌜ leaving r (now (table .exit)) ≡ write port byte (chip s (now (table .entry))) ⌝ }
+    ensures { λ r. ⌜ outcome r (now (table .exit)) ≡ called (writes port byte) (chip s (now (table .entry))) ⌝ }
 {
     let refusal = standing_of(s, table.len());
     if refusal != 0 {

@@ -4,7 +4,7 @@ use borrow.Author.Tests.{not-true, not-false}
 use Rattle.vocabulary.specs.Refusal.{standing, lentLength, outOfRange}
 use Rattle.vocabulary.proofs.Range.{not-fails, holds-passes, misses-fails, meets-passes}
 use Rattle.vocabulary.proofs.Refusal.{refusal-is, refusal-none}
-use Rattle.rgb640.specs.Rgb640.{whole, ranges}
+use Rattle.rgb640.specs.Rgb640.{whole, stateRanges}
 use borrow.Author.Needs.{needs}
 use Rattle.rgb640_port.proofs.standing_of.Statement.{statement}
 use Rattle.rgb640_port.proofs.standing_of.Tie as tie
@@ -16,13 +16,13 @@ returns-2 : tie.Need-returns-2
 returns-2 c =
     sym (refusal-is (standing _ _) (lentLength ∷ []) outOfRange _ refl
     (holds-passes (whole _) (c .before .before .if1 .left, tt), tt)
-    (misses-fails (ranges _) (sym (c .before .good2 .ensures) ∙ not-true _ (c .if2 .taken))))
+    (misses-fails (stateRanges _) (sym (c .before .in-range .ensures) ∙ not-true _ (c .if2 .taken))))
 
 returns-3 : tie.Need-returns-3
 returns-3 c =
     sym (refusal-none (standing _ _) (
       holds-passes (whole _) (c .before .before .if1 .left, tt),
-      (meets-passes (ranges _) (sym (c .before .good2 .ensures) ∙ not-false _ (c .if2 .left)), tt),
+      (meets-passes (stateRanges _) (sym (c .before .in-range .ensures) ∙ not-false _ (c .if2 .left)), tt),
     ))
 
 pub standing-of-spec : {M : Type 1} → statement M

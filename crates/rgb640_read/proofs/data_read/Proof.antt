@@ -1,39 +1,37 @@
-use mathlib.Core.Logic.{⊎-elim}
-use mathlib.Core.Path.{refl, _∙_}
-use native.Mathlib.Omega.{arith}
-use Rattle.rgb640.specs.Rgb640.{chip, updateControl, paletteRead, reading, served, dataRead, read}
-use Rattle.rgb640.proofs.Index.{space-update, space-read, unserved}
-use Rattle.rgb640.proofs.Access.{stands-holds, leaves, read-data, refuses-data}
 use borrow.Author.Needs.{needs}
 use Rattle.rgb640_read.proofs.data_read.Statement.{statement}
 use Rattle.rgb640_read.proofs.data_read.Tie as tie
+use Rattle.rgb640_read.proofs.data_read.Reads as reads
+use Rattle.rgb640_read.proofs.data_read.Lts as lts
+use Rattle.rgb640_port.proofs.accepted.Reads as accepted-reads
+use Rattle.rgb640_port.proofs.refused.Reads as refused-reads
+use Rattle.rgb640_read.proofs.palette_read.Reads as palette-read-reads
 
+-- src/lib.rt:59:19
+accepted-requires : tie.Need-accepted-requires
+accepted-requires c κs = search needs
+
+-- src/lib.rt:60:28
 palette-read-requires : tie.Need-palette-read-requires
-palette-read-requires c κs = stands-holds _ _ (c .before .before .before .before .pre)
+palette-read-requires c κs = ?
 
+-- src/lib.rt:61:14
+refused-requires : tie.Need-refused-requires
+refused-requires c κs = search needs
+
+-- src/lib.rt:53:1
 returns : tie.Need-returns
-unfolding served dataRead
-returns c =
-    leaves (c .accepted .ensures) refl
-    ∙ read-data (chip _ _) (c .before .before .before .pre) updateControl
-    (space-update _ (c .before .match .keys1)) refl
+returns c = ?
 
+-- src/lib.rt:53:1
 returns-2 : tie.Need-returns-2
-unfolding served
-returns-2 c =
-    c .palette-read .ensures
-    ∙ read-data (chip _ _) (c .before .before .before .before .before .pre) paletteRead
-    (space-read _ (c .before .before .if1 .left) (omega arith)) refl
+returns-2 c = ?
 
+-- src/lib.rt:53:1
 returns-3 : tie.Need-returns-3
-unfolding read
-returns-3 c =
-    leaves (c .refused .ensures) refl
-    ∙ refuses-data _ (chip _ _) _ (c .before .before .before .before .pre)
-    (unserved _ (c .before .before .match .rest .1) reading
-    (λ l h. ⊎-elim (λ w. omega arith) (λ w. omega arith) (c .before .if1 .came)))
+returns-3 c = ?
 
 pub data-read-spec : {M : Type 1} → statement M
 data-read-spec =
     tie.close
-    (tie.spec (λ c κs. search needs) palette-read-requires (λ c κs. search needs) returns returns-2 returns-3)
+    (tie.spec accepted-requires palette-read-requires refused-requires returns returns-2 returns-3)

@@ -1,37 +1,62 @@
-use mathlib.Core.Path.{refl, ap, _∙_}
-use Rattle.rgb640.specs.Rgb640.{dataRead, moved, accept}
-use Rattle.rgb640.proofs.Index.{is-red, is-green, is-blue}
-use Rattle.rgb640.proofs.Access.{leaves}
 use borrow.Author.Needs.{needs}
 use Rattle.rgb640_read.proofs.palette_read.Statement.{statement}
 use Rattle.rgb640_read.proofs.palette_read.Tie as tie
+use Rattle.rgb640_read.proofs.palette_read.Reads as reads
+use Rattle.rgb640_read.proofs.palette_read.Lts as lts
+use Rattle.rgb640_port.proofs.accepted.Reads as accepted-reads
+use Rattle.rgb640_read.proofs.restart.Reads as restart-reads
 
+-- src/lib.rt:42:22
+cast-accepted : tie.Need-cast-accepted
+cast-accepted c = search needs
+
+-- src/lib.rt:42:13
+accepted-requires : tie.Need-accepted-requires
+accepted-requires c κs = search needs
+
+-- src/lib.rt:46:22
+cast-accepted-2 : tie.Need-cast-accepted-2
+cast-accepted-2 c = search needs
+
+-- src/lib.rt:46:13
+accepted-requires-2 : tie.Need-accepted-requires-2
+accepted-requires-2 c κs = search needs
+
+-- src/lib.rt:48:23
+cast-accepted-3 : tie.Need-cast-accepted-3
+cast-accepted-3 c = search needs
+
+-- src/lib.rt:48:43
+restart-requires : tie.Need-restart-requires
+restart-requires c κs = search needs
+
+-- src/lib.rt:48:14
+accepted-requires-3 : tie.Need-accepted-requires-3
+accepted-requires-3 c κs = search needs
+
+-- src/lib.rt:32:1
 returns : tie.Need-returns
-unfolding dataRead moved
-returns c = leaves (c .accepted .ensures) refl ∙ rw (is-red _ (c .before .before .match .keys1))
+returns c = ?
 
+-- src/lib.rt:32:1
 returns-2 : tie.Need-returns-2
-unfolding dataRead moved
-returns-2 c = leaves (c .accepted2 .ensures) refl ∙ rw (is-green _ (c .before .before .match .keys2))
+returns-2 c = ?
 
+-- src/lib.rt:32:1
 returns-3 : tie.Need-returns-3
-unfolding dataRead moved
-returns-3 c =
-    let m = c .before .before .before in
-    rw (is-blue _ (m .match .rest .0 .1) (m .match .rest .1))
-    (leaves (c .accepted3 .ensures ∙ ap (accept _) (c .before .restart .ensures)) refl)
+returns-3 c = ?
 
 pub palette-read-spec : {M : Type 1} → statement M
 palette-read-spec =
     tie.close
     (tie.spec
-    (λ c. search needs)
-    (λ c κs. search needs)
-    (λ c. search needs)
-    (λ c κs. search needs)
-    (λ c. search needs)
-    (λ c κs. search needs)
-    (λ c κs. search needs)
+    cast-accepted
+    accepted-requires
+    cast-accepted-2
+    accepted-requires-2
+    cast-accepted-3
+    restart-requires
+    accepted-requires-3
     returns
     returns-2
     returns-3)

@@ -1,58 +1,78 @@
-use mathlib.Core.Path.{_≡_, refl, sym, _∙_}
-use native.Mathlib.Omega.{arith}
-use lib.ListN.{length}
-use Rattle.rgb640.specs.Rgb640.{chip, portOf, standingOf, readOut, read}
-use Rattle.rgb640.proofs.Access.{leaves, stops, no-port, read-index}
 use borrow.Author.Needs.{needs}
 use Rattle.rgb640_read.proofs.zk_c_read.Statement.{statement}
 use Rattle.rgb640_read.proofs.zk_c_read.Tie as tie
+use Rattle.rgb640_read.proofs.zk_c_read.Reads as reads
+use Rattle.rgb640_read.proofs.zk_c_read.Lts as lts
+use Rattle.rgb640_port.proofs.accepted.Reads as accepted-reads
+use Rattle.rgb640_port.proofs.refused.Reads as refused-reads
+use Rattle.rgb640_port.proofs.standing_of.Reads as standing-of-reads
+use Rattle.rgb640_read.proofs.data_read.Reads as data-read-reads
 
--- past what is tried first, the table and the state stand
-stands : (c : tie.Else1)
-    → standingOf (length (c .before .before .before .args .table .now)) (c .before .before .before .args .s) ≡ 0
-stands c = sym (c .before .standing-of .ensures) ∙ c .if1 .left
+-- src/lib.rt:70:9
+standing-of-requires : tie.Need-standing-of-requires
+standing-of-requires c κs = search needs
 
+-- src/lib.rt:72:9
+refused-requires : tie.Need-refused-requires
+refused-requires c κs = search needs
+
+-- src/lib.rt:72:9
 returns : tie.Need-returns
-unfolding read
-returns c =
-    leaves (c .refused .ensures) refl
-    ∙ stops _ _ (chip _ _) _ (c .before .before .standing-of .ensures) (c .before .if1 .taken)
+returns c = ?
 
+-- src/lib.rt:76:23
+cast-accepted : tie.Need-cast-accepted
+cast-accepted c = search needs
+
+-- src/lib.rt:76:14
+accepted-requires : tie.Need-accepted-requires
+accepted-requires c κs = search needs
+
+-- src/lib.rt:77:23
+cast-accepted-2 : tie.Need-cast-accepted-2
+cast-accepted-2 c = search needs
+
+-- src/lib.rt:77:14
+accepted-requires-2 : tie.Need-accepted-requires-2
+accepted-requires-2 c κs = search needs
+
+-- src/lib.rt:78:14
+data-read-requires : tie.Need-data-read-requires
+data-read-requires c κs = search needs
+
+-- src/lib.rt:79:14
+refused-requires-2 : tie.Need-refused-requires-2
+refused-requires-2 c κs = search needs
+
+-- src/lib.rt:66:1
 returns-2 : tie.Need-returns-2
-unfolding portOf readOut
-returns-2 c =
-    rw (c .before .match .keys1)
-    (leaves (c .accepted .ensures) refl
-    ∙ read-index (chip _ _) (stands (c .before .before)) 4 (omega arith) (omega arith))
+returns-2 c = ?
 
+-- src/lib.rt:66:1
 returns-3 : tie.Need-returns-3
-unfolding portOf readOut
-returns-3 c =
-    rw (c .before .match .keys2)
-    (leaves (c .accepted2 .ensures) refl
-    ∙ read-index (chip _ _) (stands (c .before .before)) 5 (omega arith) (omega arith))
+returns-3 c = ?
 
+-- src/lib.rt:66:1
 returns-4 : tie.Need-returns-4
-returns-4 c = rw (c .before .match .keys3) (c .data-read .ensures)
+returns-4 c = ?
 
+-- src/lib.rt:66:1
 returns-5 : tie.Need-returns-5
-unfolding read
-returns-5 c =
-    leaves (c .refused2 .ensures) refl ∙ no-port _ _ (chip _ _) _ (stands (c .before .before)) (λ l u. omega arith)
+returns-5 c = ?
 
 pub zk-c-read-spec : {M : Type 1} → statement M
 zk-c-read-spec =
     tie.close
     (tie.spec
-    (λ c κs. search needs)
-    (λ c κs. search needs)
+    standing-of-requires
+    refused-requires
     returns
-    (λ c. search needs)
-    (λ c κs. search needs)
-    (λ c. search needs)
-    (λ c κs. search needs)
-    (λ c κs. search needs)
-    (λ c κs. search needs)
+    cast-accepted
+    accepted-requires
+    cast-accepted-2
+    accepted-requires-2
+    data-read-requires
+    refused-requires-2
     returns-2
     returns-3
     returns-4

@@ -1,7 +1,7 @@
 use mathlib.Core.Path.{refl}
 use native.Mathlib.Omega.{arith}
 use lib.ListN.{length-set}
-use Rattle.rgb640.specs.Rgb640.{put}
+use Rattle.vocabulary.specs.Component.{put}
 use borrow.Author.Needs.{needs}
 use Rattle.rgb640_write.proofs.store.Statement.{statement}
 use Rattle.rgb640_write.proofs.store.Tie as tie

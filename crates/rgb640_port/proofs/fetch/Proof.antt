@@ -1,15 +1,15 @@
 use mathlib.Core.Path.{refl}
 use Rattle.rgb640.specs.Rgb640.{entry}
 use borrow.Author.Needs.{needs}
-use Rattle.rgb640_port.proofs.entry_at.Statement.{statement}
-use Rattle.rgb640_port.proofs.entry_at.Tie as tie
+use Rattle.rgb640_port.proofs.fetch.Statement.{statement}
+use Rattle.rgb640_port.proofs.fetch.Tie as tie
 
 returns : tie.Need-returns
 unfolding entry
 returns c = refl
 
-pub entry-at-spec : {M : Type 1} → statement M
-entry-at-spec =
+pub fetch-spec : {M : Type 1} → statement M
+fetch-spec =
     tie.close
     (tie.spec
     (λ c. search needs)
