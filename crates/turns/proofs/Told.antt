@@ -1,0 +1,66 @@
+-- How a call's outcome is told, of any chip: the code's answer was told, and is the outcome that the chip's definition
+-- has. Assumes nothing.
+use Prim.Native.Nat.{ℕ, _/_, _%_, _<_}
+use mathlib.Core.Path.{_≡_, refl, sym}
+use native.Mathlib.Omega.{arith}
+use borrow.Author.Tests.{eq-eqb, ne-eqb}
+use Rattle.vocabulary.specs.Outcome.{Outcome}
+use Rattle.vocabulary.specs.Component.{colourWord}
+use Rattle.vocabulary.proofs.Choice.{picks-first, picks-second}
+use Rattle.expand.specs.declared.Expanded.{Expanded}
+use Rattle.expand.specs.Expand.{meaning, expansion}
+use Rattle.answers.specs.declared.Text.{Text}
+use Rattle.answers.specs.declared.News.the-variants.{Nothing, Moved, Value, Colour, Sync}
+use Rattle.answers.specs.Answers.{badText, tenText, told, Says}
+use Rattle.turns.specs.Turns.{Turn, bad, done, valued, moved, signalled, poured, Took, Told, expandText}
+
+-- a colour's bytes come back out of the one number
+module _ (r g b : ℕ) (hr : r < 256) (hg : g < 256) where
+  red-of : colourWord r g b % 256 ≡ r
+  red-of = omega arith
+
+  green-of : colourWord r g b / 256 % 256 ≡ g
+  green-of = omega arith
+
+  blue-of : colourWord r g b / 65536 ≡ b
+  blue-of = omega arith
+
+pub took-bad : {C : Type 0} {text : Text} (c : C) → Says text badText → Took (Says text) c (bad c)
+took-bad c s = record { says = s; leaves = refl }
+
+-- o is the code's answer with its lent tables, p what the chip's definition has
+module _ {S C : Type 0} {text : Text} {state given : S} {left : C} {o p : Outcome C} (e : o ≡ p)
+    (fit : state ≡ given → left ≡ o .left) where
+  pub took-done : Told text state (o .refusal) Nothing given → Took (Says text) left (done p)
+  took-done t = rw (sym e) (record { says = t .says; leaves = fit (t .keeps) })
+
+  pub took-valued : Told text state (o .refusal) (Value (o .value)) given → Took (Says text) left (valued p)
+  took-valued t = rw (sym e) (record { says = t .says; leaves = fit (t .keeps) })
+
+  pub took-moved : Told text state (o .refusal) (Moved (o .count)) given → Took (Says text) left (moved p)
+  took-moved t = rw (sym e) (record { says = t .says; leaves = fit (t .keeps) })
+
+  pub took-signalled : Told text state (o .refusal) (Sync (o .value)) given → Took (Says text) left (signalled p)
+  took-signalled t = rw (sym e) (record { says = t .says; leaves = fit (t .keeps) })
+
+  pub took-poured : (r g b : ℕ) → r < 256 → g < 256 → o .value ≡ colourWord r g b
+      → Told text state (o .refusal) (Colour r g b) given → Took (Says text) left (poured p)
+  took-poured r g b hr hg v t =
+      rw (sym e, v, red-of r g b hr hg, green-of r g b hr hg, blue-of r g b hr hg) (record {
+        says = t .says;
+        leaves = fit (t .keeps);
+      })
+
+-- the expander's answer
+abbrev Tells : Text → Outcome Unit → Type 0
+Tells text o = Says text (told (o .refusal) (tenText (o .value)))
+
+pub expanded-as : {text : Text} {e k : Expanded} → e ≡ k → Tells text (meaning k) → Tells text (meaning e)
+expanded-as m s = rw m s
+
+module _ {text : Text} {o : Outcome Unit} (width v : ℕ) where
+  pub six-told : width ≡ 6 → o ≡ expansion 6 v → Tells text o → Says text (expandText width v)
+  six-told h m s = rw (picks-first {A = ℕ} 6 8 (eq-eqb width 6 h), sym m) s
+
+  pub eight-told : (width ≡ 6 → ⊥) → o ≡ expansion 8 v → Tells text o → Says text (expandText width v)
+  eight-told h m s = rw (picks-second {A = ℕ} 6 8 (ne-eqb width 6 h), sym m) s
