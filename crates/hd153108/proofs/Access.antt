@@ -144,33 +144,34 @@ select-same : (c : Chip) {j : ℕ} {k : Call} → Access k → selectOf k ≡ j 
 select-same c (writing b) e = rw e
 select-same c reading e = rw e
 
-module _ (s : State) (cs os : List ℕ) (a : Answer) {n : ℕ} {k : Call} (e : n ≡ tried (chip s cs os)) (u : Access k) where
-  abbrev answers-as : (ds ps : List ℕ) {b : Answer} → a ≡ b → outcome a ds ps ≡ outcome b ds ps
-  answers-as ds ps f = ap (λ (x : Answer). outcome x ds ps) f
+module _ (s : State) (cs os : List ℕ) (a : Answer) {n : ℕ} {k : Call} (e : n ≡ tried (chip s cs os)) (u : Access k)
+  where
+    abbrev answers-as : (ds ps : List ℕ) {b : Answer} → a ≡ b → outcome a ds ps ≡ outcome b ds ps
+    answers-as ds ps f = ap (λ (x : Answer). outcome x ds ps) f
 
-  pub stopped : (n ≡ 0 → ⊥) → a ≡ refuse n s → outcome a cs os ≡ called k (chip s cs os)
-  stopped h f = answers-as cs os f ∙ access-stops _ u e h
+    pub stopped : (n ≡ 0 → ⊥) → a ≡ refuse n s → outcome a cs os ≡ called k (chip s cs os)
+    stopped h f = answers-as cs os f ∙ access-stops _ u e h
 
-  pub unserved : n ≡ 0 → (selectOf k ≡ 0 → ⊥) → (selectOf k ≡ 1 → ⊥) → (selectOf k ≡ 3 → ⊥) → (selectOf k ≡ 4 → ⊥)
-      → (selectOf k ≡ 5 → ⊥) → (selectOf k ≡ 6 → ⊥) → (selectOf k ≡ 7 → ⊥) → a ≡ refuse 3 s
-      → outcome a cs os ≡ called k (chip s cs os)
-  unserved h z i j l m o p f =
-      answers-as cs os f ∙ no-access _ (known _ (sym e ∙ h)) u (others (selectOf k) z i j l m o p)
+    pub unserved : n ≡ 0 → (selectOf k ≡ 0 → ⊥) → (selectOf k ≡ 1 → ⊥) → (selectOf k ≡ 3 → ⊥) → (selectOf k ≡ 4 → ⊥)
+        → (selectOf k ≡ 5 → ⊥) → (selectOf k ≡ 6 → ⊥) → (selectOf k ≡ 7 → ⊥) → a ≡ refuse 3 s
+        → outcome a cs os ≡ called k (chip s cs os)
+    unserved h z i j l m o p f =
+        answers-as cs os f ∙ no-access _ (known _ (sym e ∙ h)) u (others (selectOf k) z i j l m o p)
 
-  -- the arm of select j, with the tables as it leaves them
-  pub served : {j v : ℕ} {t t′ : State} (ds ps : List ℕ) → n ≡ 0 → selectOf k ≡ j → a ≡ accept v t → t ≡ t′ → Served j
-      → accepting v 0 (chip t′ ds ps) ≡ does (atSelect j k) (chip s cs os)
-      → outcome a ds ps ≡ called k (chip s cs os)
-  served {j} ds ps h m f g r w =
-      answers-as ds ps f
-      ∙ (rw g w
-      ∙ (select-same _ u m ∙ access-goes _ (known _ (sym e ∙ h)) u (rw m r)))
+    -- the arm of select j, with the tables as it leaves them
+    pub served : {j v : ℕ} {t t′ : State} (ds ps : List ℕ) → n ≡ 0 → selectOf k ≡ j → a ≡ accept v t → t ≡ t′ → Served j
+        → accepting v 0 (chip t′ ds ps) ≡ does (atSelect j k) (chip s cs os)
+        → outcome a ds ps ≡ called k (chip s cs os)
+    served {j} ds ps h m f g r w =
+        answers-as ds ps f
+        ∙ (rw g w
+        ∙ (select-same _ u m ∙ access-goes _ (known _ (sym e ∙ h)) u (rw m r)))
 
-  -- the same of an arm that answers the state as it is
-  pub kept : {j v : ℕ} → n ≡ 0 → selectOf k ≡ j → a ≡ accept v s → Served j
-      → accepting v 0 (chip s cs os) ≡ does (atSelect j k) (chip s cs os)
-      → outcome a cs os ≡ called k (chip s cs os)
-  kept h m f r w = served cs os h m f refl r w
+    -- the same of an arm that answers the state as it is
+    pub kept : {j v : ℕ} → n ≡ 0 → selectOf k ≡ j → a ≡ accept v s → Served j
+        → accepting v 0 (chip s cs os) ≡ does (atSelect j k) (chip s cs os)
+        → outcome a cs os ≡ called k (chip s cs os)
+    kept h m f r w = served cs os h m f refl r w
 
 -- ---- The pointer's three places
 

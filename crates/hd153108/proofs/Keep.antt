@@ -127,7 +127,11 @@ does-keeps-range (pixels enable number byte) c g h = g
 pub called-keeps-range : Keeps called InRange
 called-keeps-range k c g = called-holds refusals does k c InRange g (does-keeps-range k c g)
 
--- ---- An accepted call answers no refusal
+-- ---- An accepted call answers no refusal, and a read changes no table
+
+pub record SameTables (c d : Chip) : Type 0 where
+  pub colours : d .colours ≡ c .colours
+  pub overlays : d .overlays ≡ c .overlays
 
 written-accepts : (r : Register) (byte : ℕ) (c : Chip) → written r byte c .refusal ≡ 0
 unfolding written
@@ -139,22 +143,36 @@ written-accepts blinkMask byte c = refl
 written-accepts overlayControl byte c = refl
 written-accepts blinkTiming byte c = refl
 
-answers-accepts : (r : Register) (c : Chip) → answers r c .refusal ≡ 0
+answers-only : (r : Register) (c : Chip) → (answers r c .refusal ≡ 0) × SameTables c (answers r c .left)
 unfolding answers
-answers-accepts addressRegister c = refl
-answers-accepts (dataOf t) c = refl
-answers-accepts reserved c = refl
-answers-accepts readMask c = refl
-answers-accepts blinkMask c = refl
-answers-accepts overlayControl c = refl
-answers-accepts blinkTiming c = refl
+answers-only addressRegister c = search
+answers-only (dataOf t) c = search
+answers-only reserved c = search
+answers-only readMask c = search
+answers-only blinkMask c = search
+answers-only overlayControl c = search
+answers-only blinkTiming c = search
 
 pub does-accepts : (k : Call) (c : Chip) → does k c .refusal ≡ 0
 does-accepts (writes select byte) c = written-accepts (registerAt select) byte c
-does-accepts (reads select) c = answers-accepts (registerAt select) c
+does-accepts (reads select) c = answers-only (registerAt select) c .0
 does-accepts resets c = refl
 does-accepts ticks c = refl
 does-accepts (pixels enable number byte) c = refl
+
+pub read-keeps-tables : (select : ℕ) (c : Chip) → SameTables c (called (reads select) c .left)
+read-keeps-tables select c =
+    called-holds refusals does (reads select) c (SameTables c) (search) (λ h. answers-only (registerAt select) c .1)
+
+pub reset-keeps-tables : (c : Chip) → SameTables c (called resets c .left)
+reset-keeps-tables c = called-holds refusals does resets c (SameTables c) (search) (λ h. search)
+
+-- a read of an internal register moves nothing
+pub register-reads-stay : (c : Chip)
+    → (answers readMask c .left ≡ c) × (answers blinkMask c .left ≡ c) × (answers overlayControl c .left ≡ c)
+    × (answers blinkTiming c .left ≡ c)
+unfolding answers
+register-reads-stay c = (refl, refl, refl, refl)
 
 -- ---- A pixel leaves its chip: no other call can tell whether one was asked for
 
@@ -174,39 +192,3 @@ pixel-stays ticks c e = clash (sym e)
 
 pub pixels-unnoticed : Unnoticed called isPixel
 pixels-unnoticed = unnoticed called isPixel pixel-stays
-
--- ---- What reads and a reset leave
-
--- a read of an internal register moves nothing
-pub register-reads-stay : (c : Chip)
-    → (answers readMask c .left ≡ c) × (answers blinkMask c .left ≡ c) × (answers overlayControl c .left ≡ c)
-    × (answers blinkTiming c .left ≡ c)
-unfolding answers
-register-reads-stay c = (refl, refl, refl, refl)
-
--- no read changes a table, and no reset does
-pub record SameTables (c d : Chip) : Type 0 where
-  pub colours : d .colours ≡ c .colours
-  pub overlays : d .overlays ≡ c .overlays
-
-abbrev same : (c : Chip) → SameTables c c
-same c = record { colours = refl; overlays = refl }
-
-answers-keep-tables : (r : Register) (c : Chip) → SameTables c (answers r c .left)
-unfolding answers
-answers-keep-tables addressRegister c = record { colours = refl; overlays = refl }
-answers-keep-tables (dataOf t) c = record { colours = refl; overlays = refl }
-answers-keep-tables reserved c = same c
-answers-keep-tables readMask c = same c
-answers-keep-tables blinkMask c = same c
-answers-keep-tables overlayControl c = same c
-answers-keep-tables blinkTiming c = same c
-
-pub read-keeps-tables : (select : ℕ) (c : Chip) → SameTables c (called (reads select) c .left)
-read-keeps-tables select c =
-    called-holds refusals does (reads select) c (SameTables c) (same c)
-    (λ h. answers-keep-tables (registerAt select) c)
-
-pub reset-keeps-tables : (c : Chip) → SameTables c (called resets c .left)
-reset-keeps-tables c =
-    called-holds refusals does resets c (SameTables c) (same c) (λ h. record { colours = refl; overlays = refl })

@@ -1,5 +1,5 @@
--- The two calls that the code is lent a part for are the chip's: a tick of its clock, put back; a pixel's bytes, told as
--- a colour. Assumes nothing.
+-- The two calls that the code is lent a part for are the chip's: a tick of its clock, put back; a pixel's bytes, told
+-- as a colour. Assumes nothing.
 use Prim.Native.Nat.{ℕ, zero, suc}
 use mathlib.Core.Path.{_≡_, refl}
 use mathlib.Core.List.{List, []}

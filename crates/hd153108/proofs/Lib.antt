@@ -5,4 +5,3 @@ pub mod Lent
 pub mod Data
 pub mod Masks
 pub mod Blink
-pub mod Pixel

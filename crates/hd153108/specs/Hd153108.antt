@@ -1,7 +1,7 @@
 -- The HD153108, chip A: source document 003, and document 01, "Chip A", where 003 leaves a choice ("ruling").
--- In 003's order: 1 Address Register, 2 Access to CLT/OLT, 3 Internal Registers, pixel selection (Table 4); then what
--- the code's answers say, and the face: the ranges, and each call, when it is refused and what it does. A bit named bN
--- in 003 is line N here.
+-- In 003's order: 1 Address Register, 2 Access to CLT/OLT, 3 Internal Registers, pixel selection (Table 4); then reset,
+-- the ranges, when a call is refused, what the code answers; last the face, each call whole. A bit named bN in 003 is
+-- line N here.
 use Prim.Native.Nat.{ℕ, zero, suc, _+_, _-_, _*_, _/_, _%_, _<_}
 use mathlib.Core.Path.{_≡_}
 use mathlib.Core.Bool.{Bool, true, false}
@@ -59,8 +59,8 @@ registerAt select =
     [])
     select reserved
 
--- Table 2: A0-A1 are the R.G.B pointer, `componentAt` of the vocabulary. A2-A9 select the word, $00-$FF of the colours;
--- of the overlays the low two bits do (ruling)
+-- Table 2: A0-A1 are the R.G.B pointer (`componentAt`), and A2-A9 select the word, $00-$FF of the colours; of the
+-- overlays the low two bits do (ruling)
 abbrev pub entryAt : Table → ℕ → ℕ
 entryAt colour address = address
 entryAt overlay address = address % 4
@@ -223,7 +223,8 @@ written overlayControl byte c =
     accepting 0 0 (withState (registers s (s .readmask) (s .blinkmask) (unreserved byte) (s .clock)) c)
 written blinkTiming byte c = accepting 0 0 (withClock (restarted byte) c)
 
--- what a read answers and moves: an address read sets the pointer to red too (Table 3: 00 to A0-A1), a data read steps it
+-- what a read answers and moves: an address read sets the pointer to red too (Table 3: 00 to A0-A1), a data read steps
+-- it
 unfoldable pub answers : Register → Chip → Outcome Chip
 answers addressRegister c =
     let s = c .state in accepting (s .address) 0 (withState (addressed (s .address) s) c)
@@ -265,30 +266,26 @@ shown enable number byte c =
     let t = shownTable enable number (c .state) in
     colourAt (shownEntry t number byte (c .state)) (tableOf t c)
 
--- the colour that three bytes are, in one number; no byte is 0
+-- three bytes as one number; where there is none, 0
 abbrev pub colourOf : List ℕ → ℕ
 colourOf bytes = colourWord (getD bytes 0 0) (getD bytes 1 0) (getD bytes 2 0)
 
--- ---- What the code's answers say
+-- ---- Reset
 
--- an answer that refuses, and one that accepts
-abbrev pub refuse : ℕ → State → Answer
-refuse n s = record { refusal = n; value = 0; state = s }
-
-abbrev pub accept : ℕ → State → Answer
-accept value s = record { refusal = 0; value = value; state = s }
-
--- an answer and the lent tables as they are after the call, as an outcome
-abbrev pub outcome : Answer → List ℕ → List ℕ → Outcome Chip
-outcome a colours overlays = record {
-  refusal = a .refusal;
-  value = a .value;
-  count = 0;
-  line = 0;
-  left = chip (a .state) colours overlays;
+-- every number 0, the blink at the start of its on time
+abbrev pub zeroed : State
+zeroed = record {
+  address = 0;
+  pointer = 0;
+  red = 0;
+  green = 0;
+  readmask = 0;
+  blinkmask = 0;
+  control = 0;
+  clock = restarted 0;
 }
 
--- ---- The face
+-- ---- Ranges: what refusals 1 and 9 ask
 
 -- what refusal 1 asks: both tables have their lengths
 abbrev pub lengthsOf : ℕ → ℕ → List Bound
@@ -338,7 +335,9 @@ pub record InRange (c : Chip) : Type 0 where
   pub timing : c .state .clock .timing < 256
   pub position : c .state .clock .position < period (c .state .clock .timing)
 
--- when an access is refused, of what it is given and its select: 3 where the select has no register, or the reserved one
+-- ---- When a call is refused
+
+-- a select that has no register, or the reserved one
 abbrev pub noRegister : Register → Bool
 noRegister reserved = true
 noRegister addressRegister = false
@@ -348,6 +347,7 @@ noRegister blinkMask = false
 noRegister overlayControl = false
 noRegister blinkTiming = false
 
+-- a write or a read, by what it is given besides its select
 abbrev pub accessRefusals : List Bound → ℕ → Chip → List Row
 accessRefusals given select c =
     (lentLength when short c) ∷
@@ -373,6 +373,39 @@ abbrev pub pixelRefusals : ℕ → ℕ → Chip → List Row
 pixelRefusals enable number c =
     (lentLength when short c) ∷ (outOfRange when fails (pixelRanges enable number ++ ranges c)) ∷ []
 
+-- ---- What the code is lent and answers
+
+-- an answer that refuses, and one that accepts
+abbrev pub refuse : ℕ → State → Answer
+refuse n s = record { refusal = n; value = 0; state = s }
+
+abbrev pub accept : ℕ → State → Answer
+accept value s = record { refusal = 0; value = value; state = s }
+
+-- an answer and the lent tables as they are after the call, as an outcome
+abbrev pub outcome : Answer → List ℕ → List ℕ → Outcome Chip
+outcome a colours overlays = record {
+  refusal = a .refusal;
+  value = a .value;
+  count = 0;
+  line = 0;
+  left = chip (a .state) colours overlays;
+}
+
+-- two calls by the part that the code is lent (proofs/Lent.antt: they are the chip's): a tick of a clock, ..
+unfoldable pub tick : Clock → Outcome Clock
+tick k = answered (refusalOf (tickRefusals k)) k (accepting 0 0 (ticked k))
+
+abbrev pub clockOutcome : ℕ → Clock → Outcome Clock
+clockOutcome refusal k = record { refusal = refusal; value = 0; count = 0; line = 0; left = k }
+
+-- .. and a pixel that hands back the three bytes of the chosen table, and where it is refused no byte
+unfoldable pub pixelPart : ℕ → ℕ → ℕ → Chip → Outcome (List ℕ)
+pixelPart enable number byte c =
+    answered (refusalOf (pixelRefusals enable number c)) [] (accepting 0 0 (shown enable number byte c))
+
+-- ---- The face
+
 pub data Call : Type 0 where
   -- select and byte
   writes : ℕ → ℕ → Call
@@ -391,19 +424,6 @@ refusals resets c = []
 refusals ticks c = tickRefusals (c .state .clock)
 refusals (pixels enable number byte) c = pixelRefusals enable number c
 
--- every number 0, the blink at the start of its on time
-abbrev pub zeroed : State
-zeroed = record {
-  address = 0;
-  pointer = 0;
-  red = 0;
-  green = 0;
-  readmask = 0;
-  blinkmask = 0;
-  control = 0;
-  clock = restarted 0;
-}
-
 -- a reset keeps the tables, since it is lent none (ruling); a pixel answers the shown colour and changes nothing
 abbrev pub does : Call → Chip → Outcome Chip
 does (writes select byte) c = written (registerAt select) byte c
@@ -414,15 +434,3 @@ does (pixels enable number byte) c = accepting (colourOf (shown enable number by
 
 abbrev pub called : Call → Chip → Outcome Chip
 called k c = calledBy refusals does k c
-
--- two calls as the code is lent them (proofs/Lent.antt has what they are of `called`): a tick of a clock, ..
-unfoldable pub tick : Clock → Outcome Clock
-tick k = answered (refusalOf (tickRefusals k)) k (accepting 0 0 (ticked k))
-
-abbrev pub clockOutcome : ℕ → Clock → Outcome Clock
-clockOutcome refusal k = record { refusal = refusal; value = 0; count = 0; line = 0; left = k }
-
--- .. and a pixel that hands back the three bytes of the chosen table, and where it is refused no byte
-unfoldable pub pixelPart : ℕ → ℕ → ℕ → Chip → Outcome (List ℕ)
-pixelPart enable number byte c =
-    answered (refusalOf (pixelRefusals enable number c)) [] (accepting 0 0 (shown enable number byte c))

@@ -2,8 +2,8 @@
 //
 // Source document 003, Table 4, with document 01's rulings, decides; the rule is `called` of `pixels` in hd153108's
 // specs/Hd153108.antt, and for the part `pixelPart` (`pixel-lent` says that they are one). The shown colour is handed
-// back as a part of a lent table, not copied; C gets three bytes. No call here changes a state or a table. Not modelled:
-// analogue output, blanking, pipeline delay.
+// back as a part of a lent table, not copied; C gets three bytes. No call here changes a state or a table. Not
+// modelled: analogue output, blanking, pipeline delay.
 use hd153108::State;
 use hd153108_shown::Pick;
 use hd153108_shown::picked;

@@ -1,5 +1,5 @@
--- Laws of the pixel rule: which refusal, and which entry shows, as the code knows it, so that a search closes its walk;
--- then what whoever is given the decision knows. Assumes nothing.
+-- Laws of the pixel rule: which refusal, and which entry shows, as the code knows it, so that a search closes its
+-- walk; then what whoever is given the decision knows. Assumes nothing.
 use Prim.Native.Nat.{ℕ, zero, suc, _/_, _≤_, _<_}
 use mathlib.Core.Path.{_≡_, refl, sym, ap, _∙_}
 use mathlib.Core.List.{List, [], _∷_, _++_}
@@ -95,7 +95,8 @@ module _ (enable number byte : ℕ) (s : State) (cs os : List ℕ) {n : ℕ} (e 
           let entry : i ≡ shownEntry overlay number byte s = is ∙ (p ∙ rw blink) in
           record {
             means = rw entry (shows enable number byte _ fine low few overlay (is-overlay _ (sym test ∙ h)));
-            inside = omega (arith, fine .overlays, masked-fits 2 (isOff (s .clock)) (s .control) (s .control / 4) number);
+            inside =
+                omega (arith, fine .overlays, masked-fits 2 (isOff (s .clock)) (s .control) (s .control / 4) number);
           }
 
 -- what is known of a decision that is q: the part, the refusal, the pixel's outcome
@@ -108,6 +109,9 @@ module _ {enable number byte : ℕ} {c : Chip} {p q : Pick} (k : Picked enable n
 
   pub told-as : told (meaning c q) c ≡ called (pixels enable number byte) c
   told-as = ap (λ (o : Outcome (List ℕ)). told o c) means-as ∙ sym (pixel-lent enable number byte c)
+
+  pub refusal-as : meaning c q .refusal ≡ called (pixels enable number byte) c .refusal
+  refusal-as = ap (λ (o : Outcome Chip). o .refusal) told-as
 
   pub inside-as : Inside c q
   inside-as = rw e at (k .inside)

@@ -1,7 +1,8 @@
 // The HD153108's blink clock (chip A): a tick by value, and on a lent clock.
 //
 // Source document 003, Tables 5.1 and 5.2, with document 01's rulings, decides; the rule is `tick` of hd153108's
-// specs/Hd153108.antt, which is `called` of `ticks` on the chip that has the clock (`tick-lent`). Not modelled: as there.
+// specs/Hd153108.antt, which is `called` of `ticks` on the chip that has the clock (`tick-lent`). Not modelled: as
+// there.
 use hd153108::Clock;
 use hd153108_port::period_of;
 ghost use mathlib.Core.Path.{_≡_};

@@ -5,8 +5,8 @@ use mathlib.Core.List.{List}
 use Rattle.vocabulary.specs.Component.{componentAt}
 use Rattle.hd153108.specs.declared.State.{State}
 use Rattle.hd153108.specs.declared.Answer.{Answer}
-use Rattle.hd153108.specs.Hd153108.{chip, registerAt, written, dataWrite, colour, overlay, next, stepped, latched, stored}
-use Rattle.hd153108.specs.Hd153108.{writes, called, accept, outcome}
+use Rattle.hd153108.specs.Hd153108.{chip, registerAt, written, dataWrite, colour, overlay, next, stepped, latched}
+use Rattle.hd153108.specs.Hd153108.{stored, writes, called, accept, outcome}
 use Rattle.hd153108.proofs.Access.{tried, Access, served}
 
 module _ (s : State) (cs os : List ℕ) (a : Answer) {n select byte : ℕ} (e : n ≡ tried (chip s cs os))

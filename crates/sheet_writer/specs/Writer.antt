@@ -11,4 +11,4 @@ pub record Writable (a : Chip) : Type 0 where
   pub overlays : length (a .overlays) ≡ 12
   pub low-colours : overFifteenIn (a .colours) ≡ false
   pub low-overlays : overFifteenIn (a .overlays) ≡ false
-  pub state : Holds (ranges (a .state))
+  pub state : Holds (ranges a)

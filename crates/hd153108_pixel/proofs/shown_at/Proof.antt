@@ -1,9 +1,9 @@
-use Rattle.hd153108_pixel.proofs.Ends.{byte-at, first-at}
+use Rattle.hd153108_pixel.proofs.Bytes.{first-at, later-at}
 use borrow.Author.Needs.{needs}
 use Rattle.hd153108_pixel.proofs.shown_at.Statement.{statement}
 use Rattle.hd153108_pixel.proofs.shown_at.Tie as tie
 
-ruleset ends = (byte-at, first-at, needs)
+ruleset ends = (first-at, later-at, needs)
 
 pub shown-at-spec : {M : Type 1} → statement M
 shown-at-spec =

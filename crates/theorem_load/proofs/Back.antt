@@ -5,25 +5,25 @@ use mathlib.Core.List.{List, _++_, map, map-append}
 use mathlib.Core.Bool.{false}
 use native.Mathlib.Omega.{arith}
 use lib.ListN.{length, getD, take, drop, length-map}
-use lib.Seq.{ext-getD, getD-take, getD-drop, take-at, drop-at}
-use Rattle.hd153108.specs.Hd153108.{Chip, Table, colour, overlay, size, tableOf, colourAt, write}
+use lib.Seq.{ext-getD, take-at, drop-at}
+use Rattle.hd153108.specs.Hd153108.{Chip, Table, colour, overlay, size, tableOf, colourAt, InRange}
+use Rattle.hd153108.proofs.InRange.{in-range, table-length}
+use Rattle.hd153108.proofs.Data.{byte-at}
 use Rattle.sheet.specs.declared.Line.{Line}
 use Rattle.sheet.specs.declared.Line.the-variants.{Has, Missing}
 use Rattle.sheet.specs.Sheet.{sheetOf, good, coloursIn, values, chipLines, textOf, overFifteenIn}
 use Rattle.sheet_writer.specs.Writer.{Writable}
 use Rattle.sheet_writer.proofs.Values.{length-colours}
 use Rattle.sheet_writer.proofs.Round.{round}
-use Rattle.load.specs.Load.{InRange, Writing, entriesOf, filled, Leaves, LoadsSheets, Same, LoadsBack}
-use Rattle.load.proofs.Writes.{table-length}
-use Rattle.load.proofs.Colours.{listed}
-use Rattle.load.proofs.Load.{load}
+use Rattle.theorem_load.specs.Load.{Writing, writing, entriesOf, filled, Leaves, LoadsSheets, Same, LoadsBack}
+use Rattle.theorem_load.proofs.Colours.{listed}
+use Rattle.theorem_load.proofs.Load.{load}
 
 -- tables with equal entries are equal
 byte-of : (t : List ℕ) (i : ℕ) → getD t i 0 ≡ getD (colourAt (i / 3) t) (i % 3) 0
 byte-of t i =
     let e : 3 * (i / 3) + i % 3 ≡ i = omega arith in
-    let h : i % 3 < 3 = omega arith in
-    sym (getD-take 3 (drop (3 * (i / 3)) t) (i % 3) 0 h ∙ (getD-drop (3 * (i / 3)) t (i % 3) 0 ∙ rw e))
+    sym (byte-at t (i / 3) (i % 3) (omega arith) ∙ rw e)
 
 same-entries : (n : ℕ) (s t : List ℕ) → length s ≡ 3 * n → length t ≡ 3 * n
     → ((e : ℕ) → e < n → colourAt e s ≡ colourAt e t) → s ≡ t
@@ -63,7 +63,7 @@ same-tables a b g h f t =
     same-entries (size t) (tableOf t a) (tableOf t b) (table-length t a g) (table-length t b h) (f t)
 
 pub writable-in-range : (a : Chip) → Writable a → InRange a
-writable-in-range a w = record { tables = (w .colours, (w .overlays, tt)); state = w .state }
+writable-in-range a w = in-range a (w .colours, (w .overlays, tt)) (w .state)
 
 module _ (a b after : Chip) (w : Writable a) (l : Leaves (chipLines a) b after) where
   range : InRange a
@@ -96,8 +96,8 @@ load-returns w loads a b p g =
 
 -- Document 01, demand 2: "A's colours and registers, where no table byte is over 15, become a sheet that loads back
 -- equal."
-pub back : LoadsBack write
-back = load-returns write load
+pub back : LoadsBack writing
+back = load-returns writing load
 
 -- What a load leaves is determined: registers, colours and overlays.
 pub leaves-determined : (lines : List Line) (c a b : Chip) → Leaves lines c a → Leaves lines c b → Same a b

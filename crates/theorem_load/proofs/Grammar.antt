@@ -15,7 +15,7 @@ use Rattle.sheet.specs.declared.Line.the-variants.{Has, Missing}
 use Rattle.sheet.specs.Sheet.{keyAt, keys, sheetOf, good, registersOf, overlaysOf}
 use Rattle.sheet.proofs.Texts.{width-entry}
 use Rattle.sheet.proofs.Good.{Lawful, sound}
-use Rattle.load.specs.Load.{entriesOf}
+use Rattle.theorem_load.specs.Load.{entriesOf}
 
 -- ---- parts of lawful lines
 
@@ -25,14 +25,14 @@ one-on k n = omega arith
 lawful-drop : (n k : ℕ) (l : List Line) → Lawful k l → Lawful (k + n) (drop n l)
 lawful-drop zero k l h = let e : k + 0 ≡ k = omega arith in rw e h
 lawful-drop (suc n) k [] h = tt
-lawful-drop (suc n) k (Has v ∷ l) h = rw (one-on k n) (lawful-drop n (k + 1) l (h .2))
-lawful-drop (suc n) k (Missing ∷ l) h = rw (one-on k n) (lawful-drop n (k + 1) l (h .1))
+lawful-drop (suc n) k (Has v ∷ l) (_, _, h) = rw (one-on k n) (lawful-drop n (k + 1) l h)
+lawful-drop (suc n) k (Missing ∷ l) (_, h) = rw (one-on k n) (lawful-drop n (k + 1) l h)
 
 lawful-take : (n k : ℕ) (l : List Line) → Lawful k l → Lawful k (take n l)
 lawful-take zero k l h = tt
 lawful-take (suc n) k [] h = tt
-lawful-take (suc n) k (Has v ∷ l) h = (h .0, h .1, lawful-take n (k + 1) l (h .2))
-lawful-take (suc n) k (Missing ∷ l) h = (h .0, lawful-take n (k + 1) l (h .1))
+lawful-take (suc n) k (Has v ∷ l) (fits, right, h) = (fits, right, lawful-take n (k + 1) l h)
+lawful-take (suc n) k (Missing ∷ l) (free, h) = (free, lawful-take n (k + 1) l h)
 
 -- every colour that is listed has three digits
 abbrev pub Colours : List Line → Type 0
@@ -42,8 +42,8 @@ Colours (Missing ∷ l) = Colours l
 
 colours-below : (k : ℕ) (l : List Line) → 5 ≤ k → Lawful k l → Colours l
 colours-below k [] h f = tt
-colours-below k (Has v ∷ l) h f = (rw (width-entry k h) at (f .0), colours-below (k + 1) l (omega arith) (f .2))
-colours-below k (Missing ∷ l) h f = colours-below (k + 1) l (omega arith) (f .1)
+colours-below k (Has v ∷ l) h (fits, _, f) = (rw (width-entry k h) at fits, colours-below (k + 1) l (omega arith) f)
+colours-below k (Missing ∷ l) h (_, f) = colours-below (k + 1) l (omega arith) f
 
 -- the four registers, each there
 pub record Registers (l : List Line) : Type 0 where
@@ -60,22 +60,22 @@ pub record Registers (l : List Line) : Type 0 where
 
 lawful-registers : (l : List Line) → length l ≡ 4 → Lawful 1 l → Registers l
 unfolding keyAt pick
-lawful-registers (Has r ∷ Has b ∷ Has o ∷ Has t ∷ []) h f = record {
+lawful-registers (Has r ∷ Has b ∷ Has o ∷ Has t ∷ []) h (fr, _, (fb, _, (fo, clear, (ft, _, _)))) = record {
   readmask = r;
   blinkmask = b;
   control = o;
   timing = t;
   lines = refl;
-  readmask-byte = f .0;
-  blinkmask-byte = f .2 .0;
-  control-byte = f .2 .2 .0;
-  control-clear = eqb-true _ 0 (f .2 .2 .1);
-  timing-byte = f .2 .2 .2 .0;
+  readmask-byte = fr;
+  blinkmask-byte = fb;
+  control-byte = fo;
+  control-clear = eqb-true _ 0 clear;
+  timing-byte = ft;
 }
-lawful-registers (Missing ∷ l) h f = clash (f .0)
-lawful-registers (Has r ∷ Missing ∷ l) h f = clash (f .2 .0)
-lawful-registers (Has r ∷ Has b ∷ Missing ∷ l) h f = clash (f .2 .2 .0)
-lawful-registers (Has r ∷ Has b ∷ Has o ∷ Missing ∷ l) h f = clash (f .2 .2 .2 .0)
+lawful-registers (Missing ∷ l) h (free, _) = clash free
+lawful-registers (Has r ∷ Missing ∷ l) h (_, _, (free, _)) = clash free
+lawful-registers (Has r ∷ Has b ∷ Missing ∷ l) h (_, _, (_, _, (free, _))) = clash free
+lawful-registers (Has r ∷ Has b ∷ Has o ∷ Missing ∷ l) h (_, _, (_, _, (_, _, (free, _)))) = clash free
 lawful-registers [] h f = absurd (let z : ⊥ = omega arith in z)
 lawful-registers (Has r ∷ []) h f = absurd (let z : ⊥ = omega arith in z)
 lawful-registers (Has r ∷ Has b ∷ []) h f = absurd (let z : ⊥ = omega arith in z)

@@ -3,13 +3,13 @@ use Prim.Native.Nat.{ℕ}
 use mathlib.Core.Path.{_≡_, refl, sym}
 use mathlib.Core.List.{List}
 use Rattle.hd153108.specs.declared.Clock.{Clock}
-use Rattle.hd153108.specs.Hd153108.{Chip, registerAt, withState, registers, unreserved, restarted, written}
+use Rattle.hd153108.specs.Hd153108.{Chip, registerAt, withState, registers, unreserved, restarted, written, InRange}
+use Rattle.hd153108.proofs.Keep.{control-kept}
 use Rattle.sheet.specs.declared.Line.{Line}
 use Rattle.calls.specs.Calls.{registerCalls}
-use Rattle.load.specs.Load.{InRange, registerLines}
-use Rattle.load.proofs.Grammar.{Registers}
-use Rattle.load.proofs.Writes.{control-kept}
-use Rattle.load.proofs.Runs.{Runs, one, next}
+use Rattle.theorem_load.specs.Load.{registerLines}
+use Rattle.theorem_load.proofs.Grammar.{Registers}
+use Rattle.theorem_load.proofs.Runs.{Runs, one, next}
 
 -- the chip with other registers
 abbrev set : Chip → ℕ → ℕ → ℕ → Clock → Chip

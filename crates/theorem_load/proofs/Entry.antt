@@ -5,14 +5,13 @@ use mathlib.Core.List.{[], _∷_}
 use mathlib.Core.Bool.{Bool, true, false}
 use native.Mathlib.Omega.{arith}
 use Rattle.hd153108.specs.Hd153108.{Chip, Table, colour, overlay, registerAt, size, tableOf, withTable}
-use Rattle.hd153108.specs.Hd153108.{entryAt, next, port, put, dataWrite, written}
-use Rattle.hd153108.proofs.Data.{at, red-write, green-write, blue-write}
+use Rattle.hd153108.specs.Hd153108.{entryAt, next, port, dataWrite, written, InRange}
+use Rattle.vocabulary.specs.Component.{put}
+use Rattle.hd153108.proofs.Data.{at, table-at, red-write, green-write, blue-write}
 use Rattle.sheet.specs.declared.Line.the-variants.{Has}
 use Rattle.sheet.specs.Sheet.{redOf, greenOf, blueOf}
 use Rattle.calls.specs.Calls.{call, colourCalls, entryCalls}
-use Rattle.load.specs.Load.{InRange}
-use Rattle.load.proofs.Writes.{table-of-state}
-use Rattle.load.proofs.Runs.{Runs, one, next as after}
+use Rattle.theorem_load.proofs.Runs.{Runs, one, next as after}
 
 -- ---- a data write, by the pointer
 
@@ -62,12 +61,12 @@ module _ (t : Table) (e v : ℕ) (inTable : e < size t) (colourFits : v < 4096) 
       after g (data-call t red c g (omega arith) (red-write t red c p ∙ rw (a, r)))
       (λ g1. after g1 (data-call t green c1 g1 (omega arith) (green-write t green c1 refl ∙ rw n))
       (λ g2. data-call t (blueOf v) c2 g2 (omega arith)
-      (blue-write t (blueOf v) c2 refl ∙ rw (b, entry-at t e inTable, table-of-state t c))))
+      (blue-write t (blueOf v) c2 refl ∙ rw (b, entry-at t e inTable, table-at t c))))
 
   -- where an address write comes first, no matter what address and pointer were
   addressed-done : (c : Chip) → entryDone t e v (at c e 0 (c .state .red) (c .state .green)) ≡ entryDone t e v c
   unfolding entryDone
-  addressed-done c = rw (table-of-state t c)
+  addressed-done c = rw (table-at t c)
 
   address-call : (c : Chip) → InRange c → Runs (call 0 e ∷ []) c (at c e 0 (c .state .red) (c .state .green))
   unfolding registerAt written
@@ -77,7 +76,7 @@ module _ (t : Table) (e v : ℕ) (inTable : e < size t) (colourFits : v < 4096) 
       → (follows ≡ true → (c .state .pointer ≡ 0) × (c .state .address ≡ e))
       → Runs (entryCalls (selectOf t) e follows (Has v)) c (entryDone t e v c)
   unfolding entryCalls
-  entry-calls true c g r = three-calls c g (r refl .0) (r refl .1)
+  entry-calls true c g r = let (pointer, address) = r refl in three-calls c g pointer address
   entry-calls false c g r =
       after g (address-call c g) (λ h. rw (addressed-done c) at (three-calls _ h refl refl))
 

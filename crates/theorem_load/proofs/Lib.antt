@@ -1,4 +1,3 @@
-pub mod Writes
 pub mod Runs
 pub mod Tables
 pub mod Grammar

@@ -1,71 +1,52 @@
 -- A table with a sheet's lines stored, entry by entry: each entry afterwards. Assumes nothing.
-use Prim.Native.Nat.{ℕ, zero, suc, _+_, _-_, _*_, _/_, _<_, _≤_}
-use mathlib.Core.Path.{_≡_, refl, ap, _∙_}
+use Prim.Native.Nat.{ℕ, zero, suc, _+_, _*_, _<_, _≤_}
+use mathlib.Core.Path.{_≡_, refl, sym, ap, _∙_}
 use mathlib.Core.List.{List, [], _∷_}
-use borrow.Author.Tests.{ltb-true, ltb-false}
-use lib.Dec.{ltb}
-use Rattle.vocabulary.proofs.Choice.{cases}
 use native.Mathlib.Omega.{arith}
-use lib.ListN.{length, getD, set, take, drop, length-set, length-drop}
-use lib.Seq.{drop-set-lt, drop-set-add, take-set-le}
-use Rattle.hd153108.specs.Hd153108.{put, colourAt}
+use lib.ListN.{length, getD, drop, length-take, length-drop}
+use lib.Seq.{ext-getD}
+use Rattle.vocabulary.specs.Component.{Component, red, green, blue, part, oneOf, put}
+use Rattle.vocabulary.proofs.Component.{part-below, put-length, put-elsewhere, put-own}
+use Rattle.hd153108.specs.Hd153108.{colourAt}
+use Rattle.hd153108.proofs.Data.{byte-at}
 use Rattle.sheet.specs.declared.Line.{Line}
 use Rattle.sheet.specs.declared.Line.the-variants.{Has, Missing}
 use Rattle.sheet.specs.Sheet.{redOf, greenOf, blueOf}
-use Rattle.load.specs.Load.{filled}
-
--- ---- a byte stored outside an entry keeps the entry
-
-set-other : (m i v : ℕ) (t : List ℕ) → (i / 3 ≡ m → ⊥) → colourAt m (set t i v) ≡ colourAt m t
-set-other m i v t h =
-    cases (ltb i (3 * m))
-    (λ b. ap (take 3) (drop-set-lt (3 * m) t i v (ltb-true i (3 * m) b)))
-    (λ b.
-    let low = ltb-false i (3 * m) b in
-    cases (ltb i (3 * m + 3))
-    (λ d. let high = ltb-true i (3 * m + 3) d in absurd (h (omega arith)))
-    (λ d.
-    let high = ltb-false i (3 * m + 3) d in
-    let j = i - 3 * m in
-    let e : i ≡ 3 * m + j = omega arith in
-    ap (λ (k : ℕ). colourAt m (set t k v)) e
-    ∙ (ap (take 3) (drop-set-add (3 * m) t j v) ∙ take-set-le 3 (drop (3 * m) t) j v (omega arith))))
+use Rattle.theorem_load.specs.Load.{filled}
 
 -- ---- a colour stored at entry n
 
 module _ (n r g b : ℕ) (t : List ℕ) where
-  t1 : List ℕ
-  t1 = set t (3 * n) r
+  long : (m : ℕ) → length (colourAt m (put n r g b t)) ≡ length (colourAt m t)
+  long m = simp (length-take, length-drop, put-length)
 
-  t2 : List ℕ
-  t2 = set t1 (3 * n + 1) g
+  below : (m i : ℕ) → i < length (colourAt m (put n r g b t)) → i < 3
+  below m i h = omega (arith, length-take 3 (drop (3 * m) (put n r g b t)))
 
   -- another entry is kept
   put-other : (m : ℕ) → (n ≡ m → ⊥) → colourAt m (put n r g b t) ≡ colourAt m t
-  unfolding put t1 t2
   put-other m h =
-      set-other m (3 * n + 2) b t2 (λ e. h (omega arith))
-      ∙ (set-other m (3 * n + 1) g t1 (λ e. h (omega arith)) ∙ set-other m (3 * n) r t (λ e. h (omega arith)))
+      ext-getD 0 (colourAt m (put n r g b t)) (colourAt m t) (long m)
+      (λ i l.
+      let f = below m i l in
+      byte-at (put n r g b t) m i f ∙ (put-elsewhere n r g b t m i f h ∙ sym (byte-at t m i f)))
 
   -- the entry itself is the colour
-  three : (l : List ℕ) → 3 ≤ length l → take 3 (set (set (set l 0 r) 1 g) 2 b) ≡ r ∷ g ∷ b ∷ []
-  three [] h = absurd (let z : ⊥ = omega arith in z)
-  three (x ∷ []) h = absurd (let z : ⊥ = omega arith in z)
-  three (x ∷ y ∷ []) h = absurd (let z : ⊥ = omega arith in z)
-  three (x ∷ y ∷ z ∷ l) h = refl
+  module _ (h : 3 * n + 3 ≤ length t) where
+    own : (k : Component) → getD (colourAt n (put n r g b t)) (part k) 0 ≡ oneOf k r g b
+    own k = byte-at (put n r g b t) n (part k) (part-below k) ∙ put-own n r g b t (omega arith) k
 
-  put-same : 3 * n + 3 ≤ length t → colourAt n (put n r g b t) ≡ r ∷ g ∷ b ∷ []
-  unfolding put t1 t2
-  put-same h =
-      let z : 3 * n ≡ 3 * n + 0 = omega arith in
-      let first : drop (3 * n) t1 ≡ set (drop (3 * n) t) 0 r =
-      ap (λ (i : ℕ). drop (3 * n) (set t i r)) z ∙ drop-set-add (3 * n) t 0 r in
-      rw (drop-set-add (3 * n) t2 2 b, drop-set-add (3 * n) t1 1 g, first)
-      (three (drop (3 * n) t) (simp length-drop (omega arith)))
+    here : (i : ℕ) → i < 3 → getD (colourAt n (put n r g b t)) i 0 ≡ getD (r ∷ g ∷ b ∷ []) i 0
+    here zero l = own red
+    here (suc zero) l = own green
+    here (suc (suc zero)) l = own blue
+    here (suc (suc (suc i))) l = absurd (let z : ⊥ = omega arith in z)
 
-  length-put : length (put n r g b t) ≡ length t
-  unfolding put
-  length-put = simp length-set
+    put-same : colourAt n (put n r g b t) ≡ r ∷ g ∷ b ∷ []
+    put-same =
+        ext-getD 0 (colourAt n (put n r g b t)) (r ∷ g ∷ b ∷ [])
+        (long n ∙ omega (arith, length-take 3 (drop (3 * n) t), length-drop (3 * n) t))
+        (λ i l. here i (below n i l))
 
 -- ---- lines stored from entry e on
 
@@ -79,7 +60,7 @@ putLines e (x ∷ l) t = putLines (e + 1) l (putLine e x t)
 
 line-length : (e : ℕ) (x : Line) (t : List ℕ) → length (putLine e x t) ≡ length t
 unfolding putLine
-line-length e (Has v) t = length-put _ _ _ _ t
+line-length e (Has v) t = put-length _ _ _ _ t
 line-length e Missing t = refl
 
 line-other : (e : ℕ) (x : Line) (t : List ℕ) (m : ℕ) → (e ≡ m → ⊥) → colourAt m (putLine e x t) ≡ colourAt m t

@@ -5,11 +5,12 @@
 use Prim.Native.Nat.{ℕ}
 use mathlib.Core.Path.{_≡_}
 use mathlib.Core.List.{List, [], _∷_}
-use lib.ListN.{length, getD, replicate}
-use Rattle.vocabulary.specs.Range.{Holds}
+use lib.ListN.{getD}
 use Rattle.vocabulary.specs.Outcome.{Outcome}
+use Rattle.vocabulary.specs.Run
+use Rattle.vocabulary.specs.Run.{after}
 use Rattle.hd153108.specs.declared.State.{State}
-use Rattle.hd153108.specs.Hd153108.{Chip, Table, colour, overlay, tableOf, colourAt, lengths, ranges}
+use Rattle.hd153108.specs.Hd153108.{Chip, Table, colour, overlay, tableOf, colourAt, InRange, writes, called}
 use Rattle.sheet.specs.declared.Line.{Line}
 use Rattle.sheet.specs.declared.Line.the-variants.{Has, Missing}
 use Rattle.sheet.specs.Sheet.{sheetOf, good, linesOf, registersOf, overlaysOf, coloursOf, redOf, greenOf, blueOf}
@@ -17,32 +18,28 @@ use Rattle.sheet.specs.Sheet.{textOf}
 use Rattle.sheet_writer.specs.Writer.{Writable}
 use Rattle.calls.specs.Calls.{Call, callsOf}
 
--- ---- "any state and tables within A's ranges and lengths"
-
--- what refusals 1 and 9 test
-pub record InRange (c : Chip) : Type 0 where
-  pub tables : Holds (lengths (length (c .colours)) (length (c .overlays)))
-  pub state : Holds (ranges (c .state))
+-- "any state and tables within A's ranges and lengths" is `InRange` of Hd153108
 
 -- ---- "those calls, made"
 
--- a write of a byte to a select, on a chip: A's is `write` of Hd153108, and a law may put another in its place
+-- a write of a byte to a select, on a chip: A's is `called` of `writes`, and a law may put another in its place
 -- (proofs/Cheats.antt)
 abbrev pub Writing : Type 0
 Writing = ℕ → ℕ → Chip → Outcome Chip
 
--- the chip after calls made one after another
-unfoldable pub made : Writing → List Call → Chip → Chip
-made w [] c = c
-made w (k ∷ ks) c = made w ks (w (k .select) (k .byte) c .left)
+abbrev pub writing : Writing
+writing select byte c = called (writes select byte) c
 
--- and the refusal that each of them gave, 0 for none
-unfoldable pub refusals : Writing → List Call → Chip → List ℕ
-refusals w [] c = []
-refusals w (k ∷ ks) c = w (k .select) (k .byte) c .refusal ∷ refusals w ks (w (k .select) (k .byte) c .left)
+-- a call of the list, made by a writing
+abbrev pub making : Writing → Call → Chip → Outcome Chip
+making w k c = w (k .select) (k .byte) c
+
+-- the chip after calls made one after another; and none of them is refused
+abbrev pub made : Writing → List Call → Chip → Chip
+made w ks c = after (making w) ks c
 
 abbrev pub AllAccepted : Writing → List Call → Chip → Type 0
-AllAccepted w ks c = refusals w ks c ≡ replicate (length ks) 0
+AllAccepted w ks c = Run.AllAccepted (making w) ks c
 
 -- ---- "leave the sheet's colours and registers there"
 

@@ -7,17 +7,17 @@ use native.Mathlib.Omega.{arith}
 use lib.ListN.{length}
 use Rattle.vocabulary.proofs.Range.{clash}
 use Rattle.hd153108.specs.declared.State.{State}
-use Rattle.hd153108.specs.Hd153108.{Chip, Table, colour, overlay, size, port, tableOf, colourAt, write}
+use Rattle.hd153108.specs.Hd153108.{Chip, Table, colour, overlay, size, port, tableOf, colourAt, InRange}
+use Rattle.hd153108.proofs.InRange.{table-length}
 use Rattle.sheet.specs.declared.Line.{Line}
 use Rattle.sheet.specs.Sheet.{overlaysOf, coloursOf}
 use Rattle.calls.specs.Calls.{callsOf}
-use Rattle.load.specs.Load.{InRange, registerLines, entriesOf, Leaves, LoadsSheets}
-use Rattle.load.proofs.Grammar.{GoodLines, good-lines}
-use Rattle.load.proofs.Writes.{table-length}
-use Rattle.load.proofs.Runs.{Runs, next, runs-in-range, runs-made, runs-accepted}
-use Rattle.load.proofs.Tables.{putLines, filled-at}
-use Rattle.load.proofs.Entries.{tableDone, table-calls, table-lines, table-keeps}
-use Rattle.load.proofs.Registers.{registersDone, register-calls, registers-set}
+use Rattle.theorem_load.specs.Load.{writing, registerLines, entriesOf, Leaves, LoadsSheets}
+use Rattle.theorem_load.proofs.Grammar.{GoodLines, good-lines}
+use Rattle.theorem_load.proofs.Runs.{Runs, next, runs-in-range}
+use Rattle.theorem_load.proofs.Tables.{putLines, filled-at}
+use Rattle.theorem_load.proofs.Entries.{tableDone, table-calls, table-lines, table-keeps}
+use Rattle.theorem_load.proofs.Registers.{registersDone, register-calls, registers-set}
 
 module _ (lines : List Line) (l : GoodLines lines) (c : Chip) (g : InRange c) where
   -- the chip after the registers, the overlays, the colours
@@ -67,13 +67,13 @@ module _ (lines : List Line) (l : GoodLines lines) (c : Chip) (g : InRange c) wh
     entries = λ t e.
         ap (colourAt e) (tables t)
         ∙ filled-at (entriesOf t lines) (tableOf t c) e (omega (arith, l .entries t, table-length t c g));
-    inRange = runs-in-range sheet-calls g;
+    inRange = runs-in-range g sheet-calls;
   }
 
 -- Document 01, demand 2: "those calls, made on any state and tables within A's ranges and lengths, leave the sheet's
 -- colours and registers there".
-pub load : LoadsSheets write
+pub load : LoadsSheets writing
 load text lines c e g =
     let l = good-lines text lines e in
     let r = sheet-calls lines l c g in
-    record { accepted = runs-accepted r; leaves = rw (runs-made r) (sheet-left lines l c g) }
+    record { accepted = r .accepted; leaves = rw (r .leads) (sheet-left lines l c g) }

@@ -4,17 +4,20 @@ use mathlib.Core.Path.{_≡_, refl, ap, _∙_}
 use mathlib.Core.List.{List, [], _∷_, _++_}
 use native.Mathlib.Omega.{arith}
 use lib.ListN.{getD, replicate}
-use Rattle.hd153108.specs.Hd153108.{Chip, chip, clock, Table, colour, overlay, tableOf, colourAt}
+use Rattle.vocabulary.specs.Run.{Along}
+use Rattle.vocabulary.proofs.Run.{run-keeps}
+use Rattle.hd153108.specs.Hd153108.{Chip, chip, clock, Table, colour, overlay, tableOf, colourAt, InRange}
+use Rattle.hd153108.proofs.InRange.{in-range}
 use Rattle.sheet.specs.declared.Line.{Line}
 use Rattle.sheet.specs.declared.Line.the-variants.{Has, Missing}
 use Rattle.sheet.specs.Sheet.{sheetOf, linesOf, overFifteenIn, redOf, greenOf, blueOf, textOf}
 use Rattle.sheet_writer.specs.Writer.{Writable}
 use Rattle.sheet_writer.proofs.Round.{round}
 use Rattle.calls.specs.Calls.{Call, registerCalls, callsOf}
-use Rattle.load.specs.Load.{InRange, Writing, made, refusals, AllAccepted, registerLines, entriesOf, filled}
-use Rattle.load.specs.Load.{Loads, LoadsSheets, Same}
-use Rattle.load.proofs.Grammar.{Registers, good-lines}
-use Rattle.load.proofs.Back.{load-returns}
+use Rattle.theorem_load.specs.Load.{Writing, making, made, AllAccepted, registerLines, entriesOf, filled}
+use Rattle.theorem_load.specs.Load.{Loads, LoadsSheets, Same}
+use Rattle.theorem_load.proofs.Grammar.{Registers, good-lines}
+use Rattle.theorem_load.proofs.Back.{load-returns}
 
 module _ (w : Writing) where
   -- an entry that the sheet lists has its colour; a missing entry is not touched
@@ -34,9 +37,8 @@ module _ (w : Writing) where
   -- what no call changes, no list of calls changes
   made-keeps : {A : Type 0} (f : Chip → A) → ((select b : ℕ) (c : Chip) → f (w select b c .left) ≡ f c)
       → (ks : List Call) (c : Chip) → f (made w ks c) ≡ f c
-  unfolding made
-  made-keeps f h [] c = refl
-  made-keeps f h (k ∷ ks) c = made-keeps f h ks (w (k .select) (k .byte) c .left) ∙ h (k .select) (k .byte) c
+  made-keeps f h ks c =
+      run-keeps (making w) (λ (d : Chip). f d ≡ f c) (λ k d e. h (k .select) (k .byte) d ∙ e) ks c refl
 
 -- two chips, with n in every byte and register
 bytes : ℕ → Chip
@@ -56,7 +58,7 @@ bytes n =
 
 dark : InRange (bytes 0)
 unfolding bytes
-dark = record { tables = (refl, (refl, tt)); state = omega arith }
+dark = in-range (bytes 0) (refl, (refl, tt)) (omega arith)
 
 bright : Writable (bytes 1)
 unfolding bytes overFifteenIn
@@ -97,8 +99,8 @@ module _ (w : Writing) (loads : LoadsSheets w) where
   -- every good sheet has calls, for its registers
   accepted-first : {l : List Line} (r : Registers l) (ks : List Call) (c : Chip)
       → AllAccepted w (registerCalls 4 l ++ ks) c → w 4 (r .readmask) c .refusal ≡ 0
-  unfolding registerCalls refusals
-  accepted-first r ks c e = ap (λ (l : List ℕ). getD l 0 0) (rw (r .lines) at e)
+  unfolding registerCalls Along
+  accepted-first r ks c e = (rw (r .lines) at e) .0
 
   pub must-accept : ((select b : ℕ) (c : Chip) → w select b c .refusal ≡ 0 → ⊥) → ⊥
   unfolding callsOf

@@ -9,13 +9,13 @@ use lib.ListN.{length}
 use Rattle.vocabulary.specs.Outcome.{accepting}
 use Rattle.vocabulary.proofs.Outcome.{accepted-does}
 use Rattle.vocabulary.proofs.Refusal.{refusal-none}
-use Rattle.vocabulary.proofs.Range.{holds-passes}
 use Rattle.hd153108.specs.Hd153108.{Chip}
+use Rattle.hd153108.proofs.InRange.{not-short, not-outside}
 use Rattle.sheet.specs.declared.Line.{Line}
 use Rattle.sheet.specs.Sheet.{sheetOf, good, textOf, overFifteenIn, pasted, writeRefusals, write}
 use Rattle.calls.specs.Calls.{Call, call, callsOf, callBytes, callRefusals, sheetToCalls}
 use Rattle.sheet_writer.specs.Writer.{Writable}
-use Rattle.load.proofs.Back.{writable-in-range}
+use Rattle.theorem_load.proofs.Back.{writable-in-range}
 
 -- a chip becomes its sheet, in a buffer that has the room
 pub chip-becomes-sheet : (a : Chip) (out : List ℕ) → Writable a → length (textOf a) ≤ length out
@@ -25,9 +25,8 @@ chip-becomes-sheet a out w h =
     let low : (overFifteenIn (a .colours) || overFifteenIn (a .overlays)) ≡ false =
     rw (w .low-colours) (w .low-overlays) in
     let g = writable-in-range a w in
-    let lengths = holds-passes _ (g .tables) in
-    let ranges = holds-passes _ (g .state) in
-    accepted-does 0 out _ (refusal-none (writeRefusals a out) (lengths, (ranges, (low, (le-ltb _ _ h, tt)))))
+    accepted-does 0 out _
+    (refusal-none (writeRefusals a out) (not-short a g, (not-outside a g, (low, (le-ltb _ _ h, tt)))))
 
 -- a sheet becomes its calls, in a buffer that has the room
 pub sheet-becomes-calls : (text out : List ℕ) (lines : List Line) → sheetOf text ≡ good lines

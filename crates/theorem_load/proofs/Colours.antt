@@ -9,16 +9,16 @@ use Rattle.hd153108.specs.Hd153108.{colourAt}
 use Rattle.sheet.specs.declared.Line.the-variants.{Has, Missing}
 use Rattle.sheet.specs.Sheet.{coloursIn, overFifteenIn, redOf, greenOf, blueOf}
 use Rattle.sheet_writer.proofs.Values.{low-first}
-use Rattle.load.specs.Load.{filled}
+use Rattle.theorem_load.specs.Load.{filled}
 
 -- an entry's bytes are below 16, and so are those behind it
 low-entry : (r g b : ℕ) (t : List ℕ) → overFifteenIn (r ∷ g ∷ b ∷ t) ≡ false
     → (r < 16) × (g < 16) × (b < 16) × (overFifteenIn t ≡ false)
 low-entry r g b t o =
-    let lr = low-first r _ o in
-    let lg = low-first g _ (lr .1) in
-    let lb = low-first b t (lg .1) in
-    (lr .0, lg .0, lb .0, lb .1)
+    let (hr, ro) = low-first r _ o in
+    let (hg, go) = low-first g _ ro in
+    let (hb, bo) = low-first b t go in
+    (hr, hg, hb, bo)
 
 -- a colour's components are the entry's bytes
 components : (r g b : ℕ) → r < 16 → g < 16 → b < 16
@@ -38,8 +38,8 @@ listed [] e old o h = absurd (let z : ⊥ = omega arith in z)
 listed (r ∷ []) e old o h = absurd (let z : ⊥ = omega arith in z)
 listed (r ∷ g ∷ []) e old o h = absurd (let z : ⊥ = omega arith in z)
 listed (r ∷ g ∷ b ∷ t) zero old o h =
-    let l = low-entry r g b t o in
-    components r g b (l .0) (l .1) (l .2)
+    let (hr, hg, hb, _) = low-entry r g b t o in components r g b hr hg hb
 listed (r ∷ g ∷ b ∷ t) (suc e) old o h =
     let z : 3 * suc e ≡ suc (suc (suc (3 * e))) = omega arith in
-    rw z (listed t e old (low-entry r g b t o .3) (omega arith))
+    let (_, _, _, low) = low-entry r g b t o in
+    rw z (listed t e old low (omega arith))

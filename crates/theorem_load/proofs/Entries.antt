@@ -7,16 +7,15 @@ use native.Mathlib.Omega.{arith}
 use lib.ListN.{length}
 use Rattle.vocabulary.proofs.Range.{clash}
 use Rattle.hd153108.specs.declared.State.{State}
-use Rattle.hd153108.specs.Hd153108.{Chip, Table, colour, overlay, size, tableOf, withTable}
+use Rattle.hd153108.specs.Hd153108.{Chip, Table, colour, overlay, size, tableOf, withTable, InRange}
 use Rattle.sheet.specs.declared.Line.{Line}
 use Rattle.sheet.specs.declared.Line.the-variants.{Has, Missing}
 use Rattle.calls.specs.Calls.{entryCalls, tableCalls}
-use Rattle.load.specs.Load.{InRange}
-use Rattle.load.proofs.Grammar.{Colours}
-use Rattle.load.proofs.Runs.{Runs, done, next as after}
+use Rattle.theorem_load.proofs.Grammar.{Colours}
+use Rattle.theorem_load.proofs.Runs.{Runs, none, next as after}
 use Rattle.hd153108.proofs.Data.{at}
-use Rattle.load.proofs.Entry.{selectOf, entryDone, entry-calls, entry-state, next-entry}
-use Rattle.load.proofs.Tables.{putLine, putLines}
+use Rattle.theorem_load.proofs.Entry.{selectOf, entryDone, entry-calls, entry-state, next-entry}
+use Rattle.theorem_load.proofs.Tables.{putLine, putLines}
 
 -- the chip after a line's calls, and after a table's
 unfoldable pub lineDone : Table → ℕ → Line → Chip → Chip
@@ -39,11 +38,11 @@ ready-next t e v c f h =
 pub table-calls : (t : Table) (e : ℕ) (follows : Bool) (l : List Line) (c : Chip) → InRange c → Colours l
     → e + length l ≤ size t → Ready t e follows c → Runs (tableCalls (selectOf t) e follows l) c (tableDone t e l c)
 unfolding tableCalls tableDone lineDone entryCalls
-table-calls t e follows [] c g b n r = done
-table-calls t e follows (Has v ∷ l) c g b n r =
+table-calls t e follows [] c g b n r = none c
+table-calls t e follows (Has v ∷ l) c g (fits, b) n r =
     let h : e < size t = omega arith in
-    after g (entry-calls t e v h (b .0) follows c g (λ f. r f h))
-    (λ g1. table-calls t (e + 1) true l (entryDone t e v c) g1 (b .1) (omega arith) (ready-next t e v c))
+    after g (entry-calls t e v h fits follows c g (λ f. r f h))
+    (λ g1. table-calls t (e + 1) true l (entryDone t e v c) g1 b (omega arith) (ready-next t e v c))
 table-calls t e follows (Missing ∷ l) c g b n r =
     table-calls t (e + 1) false l c g b (omega arith) (λ f h. clash (sym f))
 
