@@ -9,13 +9,13 @@ use Rattle.vocabulary.proofs.Face.{called-holds}
 use Rattle.expand.specs.Expand.{ten}
 use Rattle.expand.proofs.Width.{ten-top}
 use Rattle.rgb640.specs.declared.State.{State}
+use Rattle.rgb640.specs.declared.Answer.{Answer}
 use Rattle.rgb640.specs.Rgb640.{Chip, chip, at, updating, next, offset, entry, writing, reading, increments}
 use Rattle.rgb640.specs.Rgb640.{threeBytes, stepped, paletteTaken}
 use Rattle.rgb640.specs.Rgb640.{Space, updateControl, paletteWrite, paletteRead, nowhere, spaceOf}
-use Rattle.rgb640.specs.Rgb640.{indexHigh, registerAt, written, writes, reads, refusals, does, called, InRange}
+use Rattle.rgb640.specs.Rgb640.{indexHigh, registerAt, wrote, writes, reads, refusals, does, called, InRange}
 use Rattle.rgb640.proofs.Index.{space-holds, space-update, space-write, space-read}
 use Rattle.rgb640.proofs.Order.{red-latched, blue-stored, blue-told, restarts, stays}
-use Rattle.rgb640.proofs.InRange.{range-stands}
 use Rattle.rgb640.proofs.Access.{write-data, read-data}
 
 -- ---- Ports 4 and 5
@@ -25,13 +25,13 @@ module _ (c : Chip) where
   Indexed d = d ≡ chip (at (c .state) (d .state .index) (c .state .place)) (c .table)
 
   pub low-keeps : (b : ℕ) → Indexed (called (writes 4 b) c .left)
-  unfolding registerAt written
+  unfolding registerAt wrote
   low-keeps b = called-holds refusals does (writes 4 b) c Indexed refl (λ none. refl)
 
   -- after one of port 5, an index in read space has its entry fetched
   pub high-fetches : (b : ℕ) → spaceOf (b * 256 + c .state .index % 256) ≡ paletteRead
-      → written indexHigh b c .left .state .fetched ≡ entry (offset (b * 256 + c .state .index % 256)) (c .table)
-  unfolding written paletteRead
+      → wrote indexHigh b c .state .fetched ≡ entry (offset (b * 256 + c .state .index % 256)) (c .table)
+  unfolding wrote paletteRead
   high-fetches b e = rw e
 
   -- and port 5 keeps the latches, register 0x000E and the table
@@ -48,7 +48,7 @@ module _ (c : Chip) where
       (λ out. (refl, refl, refl, refl))
 
   pub high-keeps-latches : (b : ℕ) → Latched (called (writes 5 b) c .left)
-  unfolding registerAt written
+  unfolding registerAt wrote
   high-keeps-latches b =
       called-holds refusals does (writes 5 b) c Latched (refl, refl, refl, refl) (λ none. fetches-latched _ _)
 
@@ -66,12 +66,12 @@ module _ (c : Chip) (r : InRange c) where
     unfolding updateControl
     register-written b h =
         ap (λ (o : Outcome Chip). o .left)
-        (sym (write-data c (range-stands c r) b h (ap (λ (row : Space). row .onWrite) (space-update _ e))))
+        (sym (write-data c r b h (ap (λ (row : Space). row .onWrite) (space-update _ e))))
 
     pub register-read : (called (reads 6) c .value ≡ c .state .update) × (called (reads 6) c .left ≡ c)
     unfolding updateControl
     register-read =
-        let o = sym (read-data c (range-stands c r) (ap (λ (row : Space). row .onRead) (space-update _ e))) in
+        let o = sym (read-data c r (ap (λ (row : Space). row .onRead) (space-update _ e))) in
         (ap (λ (p : Outcome Chip). p .value) o, ap (λ (p : Outcome Chip). p .left) o)
 
   -- the third write stores at the index as it then stands, wherever red and green were latched
@@ -81,7 +81,7 @@ module _ (c : Chip) (r : InRange c) where
   unfolding paletteWrite
   third-write-here l u p b h =
       ap (λ (o : Outcome Chip). o .left .table)
-      (sym (write-data c (range-stands c r) b h (ap (λ (row : Space). row .onWrite) (space-write _ l u))))
+      (sym (write-data c r b h (ap (λ (row : Space). row .onWrite) (space-write _ l u))))
       ∙ ap (λ (d : Chip). d .table) (sym (blue-stored (c .state) (c .table) b refl p refl refl))
 
   -- the third read without auto-increment: the index and the fetched entry stay
@@ -91,8 +91,8 @@ module _ (c : Chip) (r : InRange c) where
   unfolding paletteRead
   third-read-stays l u p off =
       ap (λ (o : Outcome Chip). o .left)
-      (sym (read-data c (range-stands c r) (ap (λ (row : Space). row .onRead) (space-read _ l u))))
-      ∙ ap (λ (o : Outcome Chip). o .left) (sym (blue-told (c .state) (c .table) p refl))
+      (sym (read-data c r (ap (λ (row : Space). row .onRead) (space-read _ l u))))
+      ∙ ap (λ (a : Answer). chip (a .state) (c .table)) (sym (blue-told (c .state) (c .table) p refl refl))
       ∙ ap (λ (s : State). chip s (c .table)) (stays reading _ (c .state) off)
 
 -- ---- The step after the last transfer

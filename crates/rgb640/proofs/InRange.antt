@@ -13,8 +13,8 @@ use Rattle.vocabulary.specs.Component.{Component, red, green, blue}
 use Rattle.vocabulary.specs.Run.{Keeps}
 use Rattle.vocabulary.proofs.Choice.{picks-first, picks-second, cases}
 use Rattle.vocabulary.proofs.Component.{put-length}
-use Rattle.vocabulary.proofs.Range.{holds-passes, passes-holds}
-use Rattle.vocabulary.proofs.Refusal.{standing-clear, refusal-none}
+use Rattle.vocabulary.proofs.Range.{passes-holds}
+use Rattle.vocabulary.proofs.Refusal.{standing-clear}
 use Rattle.vocabulary.proofs.Face.{called-holds}
 use Rattle.expand.proofs.Width.{ten-below}
 use Rattle.rgb640.specs.declared.State.{State}
@@ -24,7 +24,7 @@ use Rattle.rgb640.specs.Rgb640.{colour, fetchesNothing, fetchesEntry, th
 use Rattle.rgb640.specs.Rgb640.{restarted, stepped, taken, paletteTaken, paletteTold}
 use Rattle.rgb640.specs.Rgb640.{Space, updateControl, paletteWrite, paletteRead, nowhere, spaceOf}
 use Rattle.rgb640.specs.Rgb640.{Register, indexLow, indexHigh, indexData, notServed, registerAt}
-use Rattle.rgb640.specs.Rgb640.{at, written, dataWritten, answers, dataRead}
+use Rattle.rgb640.specs.Rgb640.{at, served, wrote, dataWritten, told, dataRead}
 use Rattle.rgb640.specs.Rgb640.{Call, writes, reads, resets, refusals, does, called}
 use Rattle.rgb640.proofs.Index.{space-holds}
 use Rattle.rgb640.proofs.Order.{steps, stays}
@@ -35,17 +35,11 @@ in-range c h g = search
 pub range-holds : (c : Chip) → InRange c → Holds (lengths c) × Holds (ranges c)
 range-holds c h = search
 
--- past the refusals that every access tries first, a chip is in range; and so back
-abbrev pub Stands : Chip → Type 0
-Stands c = standingOf (length (c .table)) (c .state) ≡ 0
-
-pub stands-range : (c : Chip) → Stands c → InRange c
-stands-range c e = let k = standing-clear _ _ e in in-range c (passes-holds _ (k .0)) (passes-holds _ (k .1))
-
-pub range-stands : (c : Chip) → InRange c → Stands c
-range-stands c h =
-    let g = range-holds c h in
-    refusal-none (standing _ _) (holds-passes _ (g .0), (holds-passes _ (g .1), tt))
+-- past the refusals that every access tries first, a chip is in range
+pub stands-range : (s : State) (t : List ℕ) → standingOf (length t) s ≡ 0 → InRange (chip s t)
+stands-range s t e =
+    let k = standing-clear _ _ e in
+    in-range (chip s t) (passes-holds _ (k .0)) (passes-holds _ (k .1))
 
 -- ---- What a transfer of the three bytes leaves
 -- every transfer keeps a colour's components below 1,024
@@ -100,46 +94,40 @@ module _ (i : ℕ) (c : Chip) (r : InRange c) where
       (λ l. r, (λ l. r, (λ l. entry-range (c .state) (c .table) r, tt)))
       (λ out. r)
 
-  data-written-range : (b : ℕ) → b < 256 → InRange (dataWritten (spaceOf i .onWrite) b c .left)
-  unfolding updateControl paletteWrite paletteRead nowhere dataWritten paletteTaken
+  data-written-range : (b : ℕ) → b < 256 → InRange (dataWritten (spaceOf i) b c)
+  unfolding updateControl paletteWrite paletteRead nowhere served paletteTaken
   data-written-range b h =
       let n = taken threeBytes b c in
-      space-holds i (λ (row : Space). InRange (dataWritten (row .onWrite) b c .left))
-      (
-        λ l. omega arith,
-        (λ l. stepped-range (n .state) (n .table) (taken-range b c h r) _ _ (λ m k. k), (λ l. r, tt)),
-      )
-      (λ out. r)
+      let stored = stepped-range (n .state) (n .table) (taken-range b c h r) _ _ (λ m k. k) in
+      space-holds i (λ (row : Space). InRange (dataWritten row b c))
+      (λ l. omega arith, (λ l. stored, (λ l. r, tt))) (λ out. r)
 
-  data-read-range : InRange (dataRead (spaceOf i .onRead) c .left)
-  unfolding updateControl paletteWrite paletteRead nowhere dataRead paletteTold
+  data-read-range : InRange (chip (dataRead (spaceOf i) c .1) (c .table))
+  unfolding updateControl paletteWrite paletteRead nowhere served paletteTold
   data-read-range =
-      space-holds i (λ (row : Space). InRange (dataRead (row .onRead) c .left))
-      (
-        λ l. r,
-        (λ l. r, (λ l. stepped-range (c .state) (c .table) r _ _ (λ m k. entry-range m (c .table) k), tt)),
-      )
-      (λ out. r)
+      let steps = stepped-range (c .state) (c .table) r _ _ (λ m k. entry-range m (c .table) k) in
+      space-holds i (λ (row : Space). InRange (chip (dataRead row c .1) (c .table)))
+      (λ l. r, (λ l. r, (λ l. steps, tt))) (λ out. r)
 
 module _ (c : Chip) (r : InRange c) where
-  written-range : (b : ℕ) → b < 256 → (k : Register) → InRange (written k b c .left)
-  unfolding written
-  written-range b h indexLow = omega arith
-  written-range b h indexHigh = fetched-range _ (chip (at (c .state) _ 0) (c .table)) (omega arith)
-  written-range b h indexData = data-written-range _ c r b h
-  written-range b h notServed = r
+  wrote-range : (b : ℕ) → b < 256 → (k : Register) → InRange (wrote k b c)
+  unfolding wrote
+  wrote-range b h indexLow = omega arith
+  wrote-range b h indexHigh = fetched-range _ (chip (at (c .state) _ 0) (c .table)) (omega arith)
+  wrote-range b h indexData = data-written-range _ c r b h
+  wrote-range b h notServed = r
 
-  answers-range : (k : Register) → InRange (answers k c .left)
-  unfolding answers
-  answers-range indexLow = r
-  answers-range indexHigh = r
-  answers-range indexData = data-read-range _ c r
-  answers-range notServed = r
+  told-range : (k : Register) → InRange (chip (told k c .1) (c .table))
+  unfolding told
+  told-range indexLow = r
+  told-range indexHigh = r
+  told-range indexData = data-read-range _ c r
+  told-range notServed = r
 
 pub called-keeps-range : Keeps called InRange
 called-keeps-range (writes port b) c r =
     called-holds refusals does (writes port b) c InRange r
-    (λ none. written-range c r b (passes-holds (below b 256 ∷ ranges c) (none .1 .0) .0) (registerAt port))
+    (λ none. wrote-range c r b (passes-holds (below b 256 ∷ ranges c) (none .1 .0) .0) (registerAt port))
 called-keeps-range (reads port) c r =
-    called-holds refusals does (reads port) c InRange r (λ none. answers-range c r (registerAt port))
+    called-holds refusals does (reads port) c InRange r (λ none. told-range c r (registerAt port))
 called-keeps-range resets c r = called-holds refusals does resets c InRange r (λ none. omega arith)

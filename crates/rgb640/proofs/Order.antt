@@ -9,7 +9,6 @@ use borrow.Author.Tests.{eq-eqb, ne-eqb}
 use lib.Bits.{bitAnd, and-high}
 use Rattle.vocabulary.specs.Component.{Component, red, green, blue, part, put}
 use Rattle.vocabulary.specs.Line.{line}
-use Rattle.vocabulary.specs.Outcome.{accepting}
 use Rattle.vocabulary.proofs.Choice.{picks-first, picks-second}
 use Rattle.expand.specs.Expand.{ten}
 use Rattle.rgb640.specs.declared.Colour.{Colour}
@@ -18,7 +17,7 @@ use Rattle.rgb640.specs.declared.Answer.{Answer}
 use Rattle.rgb640.specs.Rgb640.{chip, colour, at, latching, Direction, writing, reading, increments}
 use Rattle.rgb640.specs.Rgb640.{offset, next, fetchesNothing, fetchesEntry, Transfer, eightBits, threeBytes}
 use Rattle.rgb640.specs.Rgb640.{transferAt, follows, restarted, stepped, taken, paletteTaken, paletteTold}
-use Rattle.rgb640.specs.Rgb640.{accept, outcome, InRange}
+use Rattle.rgb640.specs.Rgb640.{accept, acceptTold, InRange}
 
 -- ---- Any order
 module _ (order : List Transfer) (s : State) (t : List ℕ) (k : Transfer) (at-place : transferAt order (s .place) ≡ k) where
@@ -43,13 +42,12 @@ module _ (order : List Transfer) (s : State) (t : List ℕ) (k : Transfer) (at-p
 
   -- a byte is read, and another follows or not
   pub goes-on : follows order (s .place) ≡ true
-      → accepting (k .tells (s .fetched)) 0 (chip (at s (s .index) (s .place + 1)) t) ≡ paletteTold order (chip s t)
+      → (k .tells (s .fetched), at s (s .index) (s .place + 1)) ≡ paletteTold order (chip s t)
   unfolding paletteTold stepped
   goes-on e = rw (at-place, picks-first _ _ e)
 
   pub ends : follows order (s .place) ≡ false
-      → accepting (k .tells (s .fetched)) 0 (chip (restarted reading (fetchesEntry t) s) t)
-      ≡ paletteTold order (chip s t)
+      → (k .tells (s .fetched), restarted reading (fetchesEntry t) s) ≡ paletteTold order (chip s t)
   unfolding paletteTold stepped
   ends e = rw (at-place, picks-second _ _ e)
 
@@ -95,17 +93,18 @@ module _ (s : State) (t : List ℕ) where
         → chip n u ≡ paletteTaken threeBytes b (chip s t)
     blue-stored p f g = let l = stores threeBytes s t _ (byte-at _ blue p) b (rw p) in cc
 
-  pub red-told : s .place ≡ 0
-      → outcome (accept (s .fetched .red / 4) (at s (s .index) 1)) t ≡ paletteTold threeBytes (chip s t)
-  red-told p = let l = goes-on threeBytes s t _ (byte-at _ red p) (rw p) in cc
+  module _ {a : Answer} where
+    pub red-told : s .place ≡ 0 → a ≡ accept (s .fetched .red / 4) (at s (s .index) 1)
+        → a ≡ acceptTold (paletteTold threeBytes (chip s t))
+    red-told p e = let l = goes-on threeBytes s t _ (byte-at _ red p) (rw p) in cc
 
-  pub green-told : s .place ≡ 1
-      → outcome (accept (s .fetched .green / 4) (at s (s .index) 2)) t ≡ paletteTold threeBytes (chip s t)
-  green-told p = let l = goes-on threeBytes s t _ (byte-at _ green p) (rw p) in cc
+    pub green-told : s .place ≡ 1 → a ≡ accept (s .fetched .green / 4) (at s (s .index) 2)
+        → a ≡ acceptTold (paletteTold threeBytes (chip s t))
+    green-told p e = let l = goes-on threeBytes s t _ (byte-at _ green p) (rw p) in cc
 
-  pub blue-told : {n : State} → s .place ≡ 2 → n ≡ restarted reading (fetchesEntry t) s
-      → outcome (accept (s .fetched .blue / 4) n) t ≡ paletteTold threeBytes (chip s t)
-  blue-told p g = let l = ends threeBytes s t _ (byte-at _ blue p) (rw p) in cc
+    pub blue-told : {n : State} → s .place ≡ 2 → a ≡ accept (s .fetched .blue / 4) n
+        → n ≡ restarted reading (fetchesEntry t) s → a ≡ acceptTold (paletteTold threeBytes (chip s t))
+    blue-told p e f = let l = ends threeBytes s t _ (byte-at _ blue p) (rw p) in cc
 
 -- ---- Register 0x000E: the code's masks 2 and 4 are its bits 1 and 2
 module _ (u : ℕ) where

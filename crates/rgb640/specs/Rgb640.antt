@@ -146,13 +146,11 @@ paletteTaken order b c =
     let n = taken order b c in
     chip (stepped order writing (fetchesNothing (n .table)) (n .state)) (n .table)
 
--- a read byte is told of the fetched entry
-unfoldable pub paletteTold : List Transfer → Chip → Outcome Chip
+-- a read byte is told of the fetched entry: the byte, and the state that it leaves
+unfoldable pub paletteTold : List Transfer → Chip → ℕ × State
 paletteTold order c =
     let s = c .state in
-    let t = c .table in
-    accepting (transferAt order (s .place) .tells (s .fetched)) 0
-    (chip (stepped order reading (fetchesEntry t) s) t)
+    (transferAt order (s .place) .tells (s .fetched), stepped order reading (fetchesEntry (c .table)) s)
 
 -- ---- The spaces of the index (section 9.6, Tables 29 and 30)
 -- what a data access does, or that the space is not served in its direction
@@ -160,13 +158,13 @@ pub data Service (A : Type 0) : Type 0 where
   serves : A → Service A
   against : Service A
 
--- A space is a row: its first index and how many, what a data write does there, what a data read answers and leaves,
--- and what setting the index there fetches.
+-- A space is a row: its first index and how many, what a data write does there, what a data read answers and the state
+-- that it leaves, and what setting the index there fetches.
 pub record Space : Type 0 where
   pub first : ℕ
   pub count : ℕ
   pub onWrite : Service (ℕ → Chip → Chip)
-  pub onRead : Service (Chip → Outcome Chip)
+  pub onRead : Service (Chip → ℕ × State)
   pub onIndex : List ℕ → State → State
 
 -- Table 29, 0x000E: one byte, read and written; that moves nothing (ruling)
@@ -175,7 +173,7 @@ updateControl = record {
   first = 0x000E;
   count = 1;
   onWrite = serves λ b c. chip (updating (c .state) b) (c .table);
-  onRead = serves λ c. accepting (c .state .update) 0 c;
+  onRead = serves λ c. (c .state .update, c .state);
   onIndex = fetchesNothing;
 }
 
@@ -221,36 +219,41 @@ abbrev pub prefetched : List ℕ → State → State
 prefetched t s = spaceOf (s .index) .onIndex t s
 
 -- ---- What a write does
--- an access that is refused: not reached
-abbrev pub notReached : Chip → Outcome Chip
-notReached c = accepting 0 0 c
+-- what a service makes of an access, or what stands for one that is refused, which is not reached
+unfoldable pub served : {A B : Type 0} → Service A → (A → B) → B → B
+served (serves f) effect unreached = effect f
+served against effect unreached = unreached
 
-unfoldable pub dataWritten : Service (ℕ → Chip → Chip) → ℕ → Chip → Outcome Chip
-dataWritten (serves effect) b c = accepting 0 0 (effect b c)
-dataWritten against b c = notReached c
+-- port 6, by the space that the index lies in
+abbrev pub dataWritten : Space → ℕ → Chip → Chip
+dataWritten space b c = served (space .onWrite) (λ effect. effect b c) c
 
 -- port 4 sets the low byte alone; port 5 the high byte, restarts the order, keeps the latches and fetches (9.4.1)
-unfoldable pub written : Register → ℕ → Chip → Outcome Chip
-written indexLow b c =
+unfoldable pub wrote : Register → ℕ → Chip → Chip
+wrote indexLow b c = let s = c .state in chip (at s (s .index / 256 * 256 + b) (s .place)) (c .table)
+wrote indexHigh b c =
     let s = c .state in
-    accepting 0 0 (chip (at s (s .index / 256 * 256 + b) (s .place)) (c .table))
-written indexHigh b c =
-    let s = c .state in
-    accepting 0 0 (chip (prefetched (c .table) (at s (b * 256 + s .index % 256) 0)) (c .table))
-written indexData b c = dataWritten (spaceOf (c .state .index) .onWrite) b c
-written notServed b c = notReached c
+    chip (prefetched (c .table) (at s (b * 256 + s .index % 256) 0)) (c .table)
+wrote indexData b c = dataWritten (spaceOf (c .state .index)) b c
+wrote notServed b c = c
+
+abbrev pub written : Register → ℕ → Chip → Outcome Chip
+written register b c = accepting 0 0 (wrote register b c)
 
 -- ---- What a read answers, and what it leaves
-unfoldable pub dataRead : Service (Chip → Outcome Chip) → Chip → Outcome Chip
-dataRead (serves answer) c = answer c
-dataRead against c = notReached c
+abbrev pub dataRead : Space → Chip → ℕ × State
+dataRead space c = served (space .onRead) (λ tell. tell c) (0, c .state)
 
 -- ports 4 and 5 read back the index's bytes and move nothing
-unfoldable pub answers : Register → Chip → Outcome Chip
-answers indexLow c = accepting (c .state .index % 256) 0 c
-answers indexHigh c = accepting (c .state .index / 256) 0 c
-answers indexData c = dataRead (spaceOf (c .state .index) .onRead) c
-answers notServed c = notReached c
+unfoldable pub told : Register → Chip → ℕ × State
+told indexLow c = (c .state .index % 256, c .state)
+told indexHigh c = (c .state .index / 256, c .state)
+told indexData c = dataRead (spaceOf (c .state .index)) c
+told notServed c = (0, c .state)
+
+-- no read changes the table
+abbrev pub answers : Register → Chip → Outcome Chip
+answers register c = accepting (told register c .0) 0 (chip (told register c .1) (c .table))
 
 -- ---- The reset zeroes the state and keeps the table (ruling)
 abbrev pub zeroed : State
@@ -308,21 +311,21 @@ abbrev pub isAgainst : {A : Type 0} → Service A → Bool
 isAgainst (serves f) = false
 isAgainst against = true
 
--- an access of a port, of what it is given besides and what the index's space does in its direction
-abbrev pub accessRefusals : {A : Type 0} → List Bound → Register → Service A → Chip → List Row
-accessRefusals given register service c =
+-- an access of a port: what it is given besides, and whether the index's space is against its direction
+abbrev pub accessRefusals : List Bound → Register → Bool → Chip → List Row
+accessRefusals given register wrong c =
     (lentLength when short c) ∷
     (outOfRange when fails (given ++ ranges c)) ∷
     (noAccess when noPort register) ∷
-    (noIndex when isData register && isAgainst service) ∷
+    (noIndex when isData register && wrong) ∷
     []
 
 abbrev pub writeRefusals : ℕ → ℕ → Chip → List Row
 writeRefusals port byte c =
-    accessRefusals (below byte 256 ∷ []) (registerAt port) (spaceOf (c .state .index) .onWrite) c
+    accessRefusals (below byte 256 ∷ []) (registerAt port) (isAgainst (spaceOf (c .state .index) .onWrite)) c
 
 abbrev pub readRefusals : ℕ → Chip → List Row
-readRefusals port c = accessRefusals [] (registerAt port) (spaceOf (c .state .index) .onRead) c
+readRefusals port c = accessRefusals [] (registerAt port) (isAgainst (spaceOf (c .state .index) .onRead)) c
 
 -- a reset reads nothing and is never refused
 abbrev pub resetRefusals : List Row
@@ -331,6 +334,9 @@ resetRefusals = []
 -- a call's answer, and what it left: that answer, with the table afterwards
 abbrev pub accept : ℕ → State → Answer
 accept v s = record { refusal = 0; value = v; state = s }
+
+abbrev pub acceptTold : ℕ × State → Answer
+acceptTold r = accept (r .0) (r .1)
 
 abbrev pub refuse : ℕ → State → Answer
 refuse n s = record { refusal = n; value = 0; state = s }

@@ -1,7 +1,7 @@
 // Chip C, the palette port of the RGB640: a byte read from a port.
 //
-// Source document 001, sections 9.1, 9.4.1 and 10.15, and document 01, "Chip C", decide; the rule is `called (reads ..)`
-// of rgb640's specs/Rgb640.antt. Not modelled: as there.
+// Source document 001, sections 9.1, 9.4.1 and 10.15, and document 01, "Chip C", decide; the rule is
+// `called (reads ..)` of rgb640's specs/Rgb640.antt. Not modelled: as there.
 use rgb640::Answer;
 use rgb640::State;
 use rgb640_port::accepted;
@@ -12,7 +12,7 @@ use rgb640_port::standing_of;
 ghost use mathlib.Core.Path.{_≡_};
 ghost use lib.ListN.{length};
 ghost use Rattle.rgb640.specs.Rgb640.{chip, reading, fetchesEntry, threeBytes, restarted, paletteTold, standingOf};
-ghost use Rattle.rgb640.specs.Rgb640.{outcome, reads, called, InRange};
+ghost use Rattle.rgb640.specs.Rgb640.{acceptTold, outcome, reads, called, InRange};
 
 // The state after the last transfer: bit 2 of register 0x000E, where it is 1, stops the index.
 fn restart(s: State, table: &[u16]) -> State
@@ -31,7 +31,7 @@ fn restart(s: State, table: &[u16]) -> State
 // The answer from the fetched entry, by the place in the order.
 fn palette_read(s: State, table: &[u16]) -> Answer
     requires { ⌜ InRange (chip s (now table)) ⌝ }
-    ensures { λ r. ⌜ outcome r (now (table .entry)) ≡ paletteTold threeBytes (chip s (now (table .entry))) ⌝ }
+    ensures { λ r. ⌜ r ≡ acceptTold (paletteTold threeBytes (chip s (now (table .entry)))) ⌝ }
 {
     let place = s.place;
     let f = s.fetched;

@@ -51,7 +51,7 @@ fn given(line: &[u8]) -> State {
 fn alone(s: State, line: &[u8]) -> State {
     match script::command(line) {
         b's' => return given(line),
-        b'z' => return answer(rgb640_read::zk_c_reset(s)),
+        b'z' => return answer(rgb640_reset::zk_c_reset(s)),
         b'.' => print::end(),
         b'i' => print::place(line, s),
         b'f' => print::fetched(line, s),

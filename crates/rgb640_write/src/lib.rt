@@ -1,7 +1,7 @@
 // Chip C, the palette port of the RGB640: a byte written to a port.
 //
-// Source document 001, sections 9.1, 9.4.1 and 10.15, and document 01, "Chip C", decide; the rule is `called (writes ..)`
-// of rgb640's specs/Rgb640.antt. Not modelled: as there.
+// Source document 001, sections 9.1, 9.4.1 and 10.15, and document 01, "Chip C", decide; the rule is
+// `called (writes ..)` of rgb640's specs/Rgb640.antt. Not modelled: as there.
 use rgb640::Answer;
 use rgb640::State;
 use rgb640_port::accepted;

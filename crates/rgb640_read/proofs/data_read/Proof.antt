@@ -1,37 +1,22 @@
+use mathlib.Core.Logic.{⊎-elim}
+use native.Mathlib.Omega.{arith}
+use Rattle.rgb640.proofs.InRange.{stands-range}
+use Rattle.rgb640_read.proofs.Arms.{update-read, palette-read, not-read}
 use borrow.Author.Needs.{needs}
 use Rattle.rgb640_read.proofs.data_read.Statement.{statement}
 use Rattle.rgb640_read.proofs.data_read.Tie as tie
-use Rattle.rgb640_read.proofs.data_read.Reads as reads
-use Rattle.rgb640_read.proofs.data_read.Lts as lts
-use Rattle.rgb640_port.proofs.accepted.Reads as accepted-reads
-use Rattle.rgb640_port.proofs.refused.Reads as refused-reads
-use Rattle.rgb640_read.proofs.palette_read.Reads as palette-read-reads
 
--- src/lib.rt:59:19
-accepted-requires : tie.Need-accepted-requires
-accepted-requires c κs = search needs
-
--- src/lib.rt:60:28
-palette-read-requires : tie.Need-palette-read-requires
-palette-read-requires c κs = ?
-
--- src/lib.rt:61:14
-refused-requires : tie.Need-refused-requires
-refused-requires c κs = search needs
-
--- src/lib.rt:53:1
-returns : tie.Need-returns
-returns c = ?
-
--- src/lib.rt:53:1
-returns-2 : tie.Need-returns-2
-returns-2 c = ?
-
--- src/lib.rt:53:1
-returns-3 : tie.Need-returns-3
-returns-3 c = ?
+ruleset ends = (update-read, palette-read, stands-range, needs)
 
 pub data-read-spec : {M : Type 1} → statement M
 data-read-spec =
     tie.close
-    (tie.spec accepted-requires palette-read-requires refused-requires returns returns-2 returns-3)
+    (tie.spec
+    (λ c. search ends)
+    (λ c. search ends)
+    (λ c. search ends)
+    (λ c. search ends)
+    (λ c. search ends)
+    (λ c.
+    not-read _ _ _ (c .before .before .before .before .pre) (c .refused .ensures) (c .before .before .match .rest .1)
+    (λ l u. ⊎-elim (λ w. omega arith) (λ w. omega arith) (c .before .if1 .came))))

@@ -1,11 +1,12 @@
 use mathlib.Core.Logic.{⊎-elim}
 use native.Mathlib.Omega.{arith}
-use Rattle.rgb640_write.proofs.Arms.{update-written, palette-written, not-written, table-stands}
+use Rattle.rgb640.proofs.InRange.{stands-range}
+use Rattle.rgb640_write.proofs.Arms.{update-written, palette-written, not-written}
 use borrow.Author.Needs.{needs}
 use Rattle.rgb640_write.proofs.data_write.Statement.{statement}
 use Rattle.rgb640_write.proofs.data_write.Tie as tie
 
-ruleset ends = (update-written, palette-written, not-written, table-stands, needs)
+ruleset ends = (update-written, palette-written, not-written, stands-range, needs)
 
 pub data-write-spec : {M : Type 1} → statement M
 data-write-spec =
