@@ -10,9 +10,8 @@ use Rattle.vocabulary.proofs.Choice.{picks-first, picks-second}
 use Rattle.expand.specs.declared.Expanded.{Expanded}
 use Rattle.expand.specs.Expand.{meaning, expansion}
 use Rattle.answers.specs.declared.Text.{Text}
-use Rattle.answers.specs.declared.News.the-variants.{Nothing, Moved, Value, Colour, Sync}
-use Rattle.answers.specs.Answers.{badText, tenText, told, Says}
-use Rattle.turns.specs.Turns.{Turn, bad, done, valued, moved, signalled, poured, Took, Told, expandText}
+use Rattle.answers.specs.Answers.{okText, badText, valueText, movedText, syncText, colourText, tenText, told, Says}
+use Rattle.turns.specs.Turns.{Turn, bad, done, valued, moved, signalled, poured, Took, expandText}
 
 -- a colour's bytes come back out of the one number
 module _ (r g b : ℕ) (hr : r < 256) (hg : g < 256) where
@@ -29,27 +28,23 @@ pub took-bad : {C : Type 0} {text : Text} (c : C) → Says text badText → Took
 took-bad c s = record { says = s; leaves = refl }
 
 -- o is the code's answer with its lent tables, p what the chip's definition has
-module _ {S C : Type 0} {text : Text} {state given : S} {left : C} {o p : Outcome C} (e : o ≡ p)
-    (fit : state ≡ given → left ≡ o .left) where
-  pub took-done : Told text state (o .refusal) Nothing given → Took (Says text) left (done p)
-  took-done t = rw (sym e) (record { says = t .says; leaves = fit (t .keeps) })
+module _ {C : Type 0} {text : Text} {left : C} {o p : Outcome C} (e : o ≡ p) (l : left ≡ o .left) where
+  pub took-done : Says text (told (o .refusal) okText) → Took (Says text) left (done p)
+  took-done s = rw (sym e) (record { says = s; leaves = l })
 
-  pub took-valued : Told text state (o .refusal) (Value (o .value)) given → Took (Says text) left (valued p)
-  took-valued t = rw (sym e) (record { says = t .says; leaves = fit (t .keeps) })
+  pub took-valued : Says text (told (o .refusal) (valueText (o .value))) → Took (Says text) left (valued p)
+  took-valued s = rw (sym e) (record { says = s; leaves = l })
 
-  pub took-moved : Told text state (o .refusal) (Moved (o .count)) given → Took (Says text) left (moved p)
-  took-moved t = rw (sym e) (record { says = t .says; leaves = fit (t .keeps) })
+  pub took-moved : Says text (told (o .refusal) (movedText (o .count))) → Took (Says text) left (moved p)
+  took-moved s = rw (sym e) (record { says = s; leaves = l })
 
-  pub took-signalled : Told text state (o .refusal) (Sync (o .value)) given → Took (Says text) left (signalled p)
-  took-signalled t = rw (sym e) (record { says = t .says; leaves = fit (t .keeps) })
+  pub took-signalled : Says text (told (o .refusal) (syncText (o .value))) → Took (Says text) left (signalled p)
+  took-signalled s = rw (sym e) (record { says = s; leaves = l })
 
-  pub took-poured : (r g b : ℕ) → r < 256 → g < 256 → o .value ≡ colourWord r g b
-      → Told text state (o .refusal) (Colour r g b) given → Took (Says text) left (poured p)
-  took-poured r g b hr hg v t =
-      rw (sym e, v, red-of r g b hr hg, green-of r g b hr hg, blue-of r g b hr hg) (record {
-        says = t .says;
-        leaves = fit (t .keeps);
-      })
+  pub took-poured : (r g b : ℕ) → o .value ≡ colourWord r g b → r < 256 → g < 256
+      → Says text (told (o .refusal) (colourText r g b)) → Took (Says text) left (poured p)
+  took-poured r g b v hr hg s =
+      rw (sym e, v, red-of r g b hr hg, green-of r g b hr hg, blue-of r g b hr hg) (record { says = s; leaves = l })
 
 -- the expander's answer
 abbrev Tells : Text → Outcome Unit → Type 0
