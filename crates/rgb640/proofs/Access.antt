@@ -78,5 +78,7 @@ module _ (c : Chip) (r : InRange c) where
       → accepting (f c .0) 0 (chip (f c .1) (c .table)) ≡ called (reads 6) c
   unfolding calledBy registerAt told served
   read-data e =
-      ap (λ (w : Service (Chip → ℕ × State)). outcome (acceptTold (served w (λ f. f c) (0, c .state))) (c .table)) (sym e)
+      ap
+      (λ (w : Service (Chip → ℕ × State)). outcome (acceptTold (served w (λ f. f c) (0, c .state))) (c .table))
+      (sym e)
       ∙ accepts [] indexData _ c _ r state-passes refl (ap isAgainst e)

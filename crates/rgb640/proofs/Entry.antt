@@ -3,7 +3,7 @@ use Prim.Native.Nat.{ℕ, _+_, _*_, _%_, _<_}
 use mathlib.Core.Path.{_≡_, ap, _∙_}
 use mathlib.Core.List.{List}
 use native.Mathlib.Nat.{add-zero, mod-eq-of-lt}
-use lib.ListN.{length, getD}
+use lib.ListN.{length}
 use Rattle.vocabulary.specs.Component.{red, green, blue, put}
 use Rattle.vocabulary.proofs.Component.{put-own}
 use Rattle.rgb640.specs.Rgb640.{colour, entry}

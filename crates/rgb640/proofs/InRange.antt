@@ -1,15 +1,11 @@
 -- A chip in range passes the table of its lengths and ranges, and every call leaves it in range. Assumes nothing.
-use Prim.Native.Nat.{ℕ, zero, suc, _+_, _<_}
-use mathlib.Core.Path.{_≡_, refl, _∙_}
-use mathlib.Core.Bool.{true, false}
+use Prim.Native.Nat.{ℕ, zero, suc, _<_}
+use mathlib.Core.Path.{_≡_}
 use mathlib.Core.List.{List, _∷_}
 use native.Mathlib.Omega.{arith}
 use lib.ListN.{length}
 use borrow.Author.Tests.{ltb-true}
 use Rattle.vocabulary.specs.Range.{Holds, below}
-use Rattle.vocabulary.specs.Outcome.{Outcome}
-use Rattle.vocabulary.specs.Refusal.{standing}
-use Rattle.vocabulary.specs.Component.{Component, red, green, blue}
 use Rattle.vocabulary.specs.Run.{Keeps}
 use Rattle.vocabulary.proofs.Choice.{picks-first, picks-second, cases}
 use Rattle.vocabulary.proofs.Component.{put-length}
@@ -20,12 +16,12 @@ use Rattle.expand.proofs.Width.{ten-below}
 use Rattle.rgb640.specs.declared.State.{State}
 use Rattle.rgb640.specs.declared.Colour.{Colour}
 use Rattle.rgb640.specs.Rgb640.{Chip, chip, lengths, ranges, standingOf, InRange, entry, increments, Direction}
-use Rattle.rgb640.specs.Rgb640.{colour, fetchesNothing, fetchesEntry, threeBytes, transferAt, follows}
+use Rattle.rgb640.specs.Rgb640.{colour, fetchesEntry, threeBytes, transferAt, follows}
 use Rattle.rgb640.specs.Rgb640.{restarted, stepped, taken, paletteTaken, paletteTold}
 use Rattle.rgb640.specs.Rgb640.{Space, updateControl, paletteWrite, paletteRead, nowhere, spaceOf}
 use Rattle.rgb640.specs.Rgb640.{Register, indexLow, indexHigh, indexData, notServed, registerAt}
 use Rattle.rgb640.specs.Rgb640.{at, served, wrote, dataWritten, told, dataRead}
-use Rattle.rgb640.specs.Rgb640.{Call, writes, reads, resets, refusals, does, called}
+use Rattle.rgb640.specs.Rgb640.{writes, reads, resets, refusals, does, called}
 use Rattle.rgb640.proofs.Index.{space-holds}
 use Rattle.rgb640.proofs.Order.{steps, stays}
 

@@ -1,7 +1,7 @@
 -- The order of transfers: what a transfer of any order does, then the three bytes of Table 26, and the bits of
 -- register 0x000E as the code masks them. Assumes nothing.
-use Prim.Native.Nat.{ℕ, _+_, _*_, _/_, _<_}
-use mathlib.Core.Path.{_≡_, refl, sym, ap, _∙_}
+use Prim.Native.Nat.{ℕ, _+_, _/_}
+use mathlib.Core.Path.{_≡_, sym, ap}
 use mathlib.Core.Bool.{true, false}
 use mathlib.Core.List.{List}
 use native.Mathlib.Omega.{arith}
@@ -20,7 +20,7 @@ use Rattle.rgb640.specs.Rgb640.{transferAt, follows, restarted, stepped,
 use Rattle.rgb640.specs.Rgb640.{accept, acceptTold, InRange}
 
 -- ---- Any order
-module _ (order : List Transfer) (s : State) (t : List ℕ) (k : Transfer) (at-place : transferAt order (s .place) ≡ k) where
+module _ (order : List Transfer) (s : State) (t : List ℕ) (k : Transfer) (is : transferAt order (s .place) ≡ k) where
   -- a written byte that another follows is latched; the last is stored
   module _ (b : ℕ) where
     abbrev pub underway : Colour
@@ -33,23 +33,23 @@ module _ (order : List Transfer) (s : State) (t : List ℕ) (k : Transfer) (at-p
         → chip (at (latching s (underway .red) (underway .green)) (s .index) (s .place + 1)) t
         ≡ paletteTaken order b (chip s t)
     unfolding paletteTaken taken stepped
-    latches e = rw (at-place, picks-first _ _ e) (ap (λ (n : State). chip n t) (sym (picks-first _ _ e)))
+    latches e = rw (is, picks-first _ _ e) (ap (λ (n : State). chip n t) (sym (picks-first _ _ e)))
 
     pub stores : follows order (s .place) ≡ false
         → chip (restarted writing (fetchesNothing full) s) full ≡ paletteTaken order b (chip s t)
     unfolding paletteTaken taken stepped
-    stores e = rw (at-place, picks-second _ _ e) (ap (λ (n : State). chip n full) (sym (picks-second _ _ e)))
+    stores e = rw (is, picks-second _ _ e) (ap (λ (n : State). chip n full) (sym (picks-second _ _ e)))
 
   -- a byte is read, and another follows or not
   pub goes-on : follows order (s .place) ≡ true
       → (k .tells (s .fetched), at s (s .index) (s .place + 1)) ≡ paletteTold order (chip s t)
   unfolding paletteTold stepped
-  goes-on e = rw (at-place, picks-first _ _ e)
+  goes-on e = rw (is, picks-first _ _ e)
 
   pub ends : follows order (s .place) ≡ false
       → (k .tells (s .fetched), restarted reading (fetchesEntry t) s) ≡ paletteTold order (chip s t)
   unfolding paletteTold stepped
-  ends e = rw (at-place, picks-second _ _ e)
+  ends e = rw (is, picks-second _ _ e)
 
 -- after the last transfer the order restarts, ..
 pub restarts : (order : List Transfer) (d : Direction) (fetch : State → State) (s : State)

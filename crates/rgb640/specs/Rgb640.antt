@@ -1,5 +1,5 @@
--- Chip C, the palette port of the RGB640: source document 001, sections 9.1, 9.3, 9.4.1 and 10.15 with Tables 22 to
--- 26, 29 and 30, and document 01, "Chip C". "Ruling" marks what they leave open.
+-- Chip C, the palette port of the RGB640: source document 001, sections 9.1, 9.3, 9.4.1, 9.6 and 10.15 with Tables 22
+-- to 26, 29 and 30, and document 01, "Chip C". "Ruling" marks what they leave open.
 -- From the top: the state, the ports, the index and its auto-increment, the palette, the order of transfers, the
 -- spaces of the index, what a write does, what a read answers, the reset, what a call asks, and the face.
 use Prim.Native.Nat.{ℕ, _+_, _-_, _*_, _/_, _%_, _<_}
@@ -167,42 +167,32 @@ pub record Space : Type 0 where
   pub onRead : Service (Chip → ℕ × State)
   pub onIndex : List ℕ → State → State
 
--- Table 29, 0x000E: one byte, read and written; that moves nothing (ruling)
+abbrev pub space : ℕ → ℕ → Service (ℕ → Chip → Chip) → Service (Chip → ℕ × State) → (List ℕ → State → State) → Space
+space i n w r f = record { first = i; count = n; onWrite = w; onRead = r; onIndex = f }
+
+-- Table 29, 0x000E, update control: one byte, read and written; that moves nothing (ruling)
+abbrev pub updateTaken : ℕ → Chip → Chip
+updateTaken b c = chip (updating (c .state) b) (c .table)
+
+abbrev pub updateTold : Chip → ℕ × State
+updateTold c = (c .state .update, c .state)
+
 unfoldable pub updateControl : Space
-updateControl = record {
-  first = 0x000E;
-  count = 1;
-  onWrite = serves λ b c. chip (updating (c .state) b) (c .table);
-  onRead = serves λ c. (c .state .update, c .state);
-  onIndex = fetchesNothing;
-}
+updateControl = space 0x000E 1 (serves updateTaken) (serves updateTold) fetchesNothing
 
--- Table 30, 0x4000 to 0x43FF: main colour palette write
+-- Table 30, 0x4000 to 0x43FF, main colour palette write, and 0x8000 to 0x83FF, main colour palette read
 unfoldable pub paletteWrite : Space
-paletteWrite = record {
-  first = 0x4000;
-  count = 1024;
-  onWrite = serves (paletteTaken threeBytes);
-  onRead = against;
-  onIndex = fetchesNothing;
-}
+paletteWrite = space 0x4000 1024 (serves (paletteTaken threeBytes)) against fetchesNothing
 
--- Table 30, 0x8000 to 0x83FF: main colour palette read
 unfoldable pub paletteRead : Space
-paletteRead = record {
-  first = 0x8000;
-  count = 1024;
-  onWrite = against;
-  onRead = serves (paletteTold threeBytes);
-  onIndex = fetchesEntry;
-}
+paletteRead = space 0x8000 1024 against (serves (paletteTold threeBytes)) fetchesEntry
 
 abbrev pub spaces : List Space
 spaces = updateControl ∷ paletteWrite ∷ paletteRead ∷ []
 
 -- an index in no row is nowhere
 unfoldable pub nowhere : Space
-nowhere = record { first = 0; count = 0; onWrite = against; onRead = against; onIndex = fetchesNothing }
+nowhere = space 0 0 against against fetchesNothing
 
 -- from a number on, and so many
 abbrev pub within : ℕ → ℕ → ℕ → List Bound
@@ -219,7 +209,7 @@ abbrev pub prefetched : List ℕ → State → State
 prefetched t s = spaceOf (s .index) .onIndex t s
 
 -- ---- What a write does
--- what a service makes of an access, or what stands for one that is refused, which is not reached
+-- what a service makes of an access; what stands for one that is refused, here and below at `notServed`, is not reached
 unfoldable pub served : {A B : Type 0} → Service A → (A → B) → B → B
 served (serves f) effect unreached = effect f
 served against effect unreached = unreached

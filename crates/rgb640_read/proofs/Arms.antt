@@ -69,7 +69,8 @@ module _ (s : State) (t : List ℕ) where
             let r = stands-range s t (sym f ∙ g) in
             rw e (Access.no-port [] (registerAt port) _ _ _ r (state-passes _ r) (ap noPort (no-register port x y z)))
 
-      pub data-read : port ≡ 6 → outcome a t ≡ called (reads 6) (chip s t) → outcome a t ≡ called (reads port) (chip s t)
+      pub data-read : port ≡ 6 → outcome a t ≡ called (reads 6) (chip s t)
+          → outcome a t ≡ called (reads port) (chip s t)
       data-read p e = rw p e
 
   -- past what is tried first

@@ -13,15 +13,16 @@ use Rattle.expand.proofs.Width.{ten-below, ten-top}
 use Rattle.rgb640.specs.declared.State.{State}
 use Rattle.rgb640.specs.declared.Colour.{Colour}
 use Rattle.rgb640.specs.declared.Answer.{Answer}
-use Rattle.rgb640.specs.Rgb640.{Chip, chip, colour, at, latching, fetching, registerAt, writing, offset, entry}
-use Rattle.rgb640.specs.Rgb640.{threeBytes, restarted, paletteTaken, paletteTold, Space, spaceOf, paletteWrite}
-use Rattle.rgb640.specs.Rgb640.{paletteRead, prefetched, wrote, acceptTold, outcome, Call, writes, reads, called, InRange}
+use Rattle.rgb640.specs.Rgb640.{Chip, chip, at, latching, fetching, registerAt, writing, offset, entry}
+use Rattle.rgb640.specs.Rgb640.{threeBytes, restarted, paletteTaken, paletteTold, Space, paletteWrite}
+use Rattle.rgb640.specs.Rgb640.{paletteRead, prefetched, wrote, acceptTold, outcome, Call, writes, reads, called}
+use Rattle.rgb640.specs.Rgb640.{InRange}
 use Rattle.rgb640.proofs.Entry.{entry-put}
 use Rattle.rgb640.proofs.Index.{space-write, space-read, fetches-entry, fetches-nothing}
 use Rattle.rgb640.proofs.Order.{red-latched, green-latched, blue-stored, red-told, green-told, blue-told}
 use Rattle.rgb640.proofs.InRange.{called-keeps-range}
 use Rattle.rgb640.proofs.Access.{write-index, write-data, read-data}
-use Rattle.theorem_read_back.specs.ReadBack.{pointing, storing, recalling, tells, ReadsBack}
+use Rattle.theorem_read_back.specs.ReadBack.{pointing, recalling, tells, ReadsBack}
 
 -- ---- A run of accepted calls: what they tell, and the chip that each leaves
 data Tells : List Call → Chip → List Reply → Type 0 where
@@ -96,7 +97,8 @@ module _ (s : State) (t : List ℕ) (x : InRange (chip s t)) (l : 0x4000 ≤ s .
 
   blue-written : called (writes 6 b) (chip two t) ≡ accepting 0 0 stored
   blue-written =
-      writes-goes two t (kept _ (kept _ x red-written) green-written) l u b hb (blue-stored two t b refl refl refl refl)
+      writes-goes two t (kept _ (kept _ x red-written) green-written) l u b hb
+      (blue-stored two t b refl refl refl refl)
 
   stored-range : InRange stored
   stored-range = kept _ (kept _ (kept _ x red-written) green-written) blue-written
@@ -107,7 +109,8 @@ module _ (s : State) (t : List ℕ) (x : InRange (chip s t)) (l : 0x4000 ≤ s .
 
 -- ---- Three bytes are read
 module _ (s : State) (t : List ℕ) (x : InRange (chip s t)) (l : 0x8000 ≤ s .index) (u : s .index < 0x8400) where
-  reads-goes : {a : Answer} → a ≡ acceptTold (paletteTold threeBytes (chip s t)) → called (reads 6) (chip s t) ≡ outcome a t
+  reads-goes : {a : Answer} → a ≡ acceptTold (paletteTold threeBytes (chip s t))
+      → called (reads 6) (chip s t) ≡ outcome a t
   unfolding paletteRead
   reads-goes e =
       sym (read-data (chip s t) x (ap (λ (row : Space). row .onRead) (space-read _ l u)))
@@ -157,8 +160,8 @@ reads-back c x e r g b he hr hg hb =
     ap (λ (n : State). chip n (c .table)) (fetches-nothing _ (λ a b. omega arith) _ _) in
     let y = pointed-range c x i (omega arith) nothing in
     let z = stored-range s (c .table) y (omega arith) (omega arith) refl r g b hr hg hb in
-    let found : entry e (put (offset i) (ten 8 r) (ten 8 g) (ten 8 b) (c .table)) ≡ colour (ten 8 r) (ten 8 g) (ten 8 b)
-    = ap (λ (n : ℕ). entry e (put n (ten 8 r) (ten 8 g) (ten 8 b) (c .table))) (omega arith)
+    let found =
+    ap (λ (n : ℕ). entry e (put n (ten 8 r) (ten 8 g) (ten 8 b) (c .table))) (let m : offset i ≡ e = omega arith in m)
     ∙ entry-put e _ _ _ (c .table) (omega arith) (low r hr) (low g hg) (low b hb) in
     heard (points c x i (omega arith) nothing
     (stores s (c .table) y (omega arith) (omega arith) refl r g b hr hg hb (recalled _ z e he _ found)))
