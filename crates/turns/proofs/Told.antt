@@ -24,8 +24,8 @@ module _ (r g b : ℕ) (hr : r < 256) (hg : g < 256) where
   blue-of : colourWord r g b / 65536 ≡ b
   blue-of = omega arith
 
-pub took-bad : {C : Type 0} {text : Text} (c : C) → Says text badText → Took (Says text) c (bad c)
-took-bad c s = record { says = s; leaves = refl }
+pub took-bad : {C : Type 0} {text : Text} {left c : C} → left ≡ c → Says text badText → Took (Says text) left (bad c)
+took-bad e s = record { says = s; leaves = e }
 
 -- o is the code's answer with its lent tables, p what the chip's definition has
 module _ {C : Type 0} {text : Text} {left : C} {o p : Outcome C} (e : o ≡ p) (l : left ≡ o .left) where

@@ -7,7 +7,9 @@ use answers::Text;
 use log::Call;
 use rgb640::Answer;
 use rgb640::State;
+ghost use mathlib.Core.Path.{_≡_};
 ghost use Rattle.rgb640.specs.Rgb640.{chip};
+ghost use Rattle.answers.specs.Answers.{Says, badText};
 ghost use Rattle.turns.specs.Turns.{Told};
 ghost use Rattle.turns_c.specs.Turns.{cTurn, CTook};
 
@@ -28,6 +30,16 @@ fn told(r: Answer, news: News) -> CTurn
     }
 }
 
+// A call that chip C has not.
+fn bad(s: State) -> CTurn
+    ensures { λ t. ⌜ (t .state ≡ s) × Says (t .text) badText ⌝ }
+{
+    CTurn {
+        state: s,
+        text: answers::bad(),
+    }
+}
+
 // A call on chip C.
 pub fn c_turn(s: State, call: Call, table: &mut [u16]) -> CTurn
     ensures { λ r. ⌜ CTook r (now (table .exit)) (cTurn call (chip s (now (table .entry)))) ⌝ }
@@ -42,9 +54,7 @@ pub fn c_turn(s: State, call: Call, table: &mut [u16]) -> CTurn
             told(r, News::Value(r.value))
         }
         Call::Reset => told(rgb640_reset::zk_c_reset(s), News::Nothing),
-        _ => CTurn {
-            state: s,
-            text: answers::bad(),
-        },
+        Call::OfA(_) => bad(s),
+        Call::OfB(_) => bad(s),
     }
 }
