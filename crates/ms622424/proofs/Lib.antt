@@ -1,10 +1,10 @@
-pub mod Every
-pub mod Gathered
-pub mod Places
-pub mod Standing
-pub mod Waiting
 pub mod Access
+pub mod InRange
+pub mod Moves
 pub mod Write
 pub mod Read
 pub mod Blank
 pub mod Reset
+pub mod Kept
+pub mod Pixel
+pub mod Signals

@@ -1,93 +1,102 @@
 -- Laws of a read: what an accepted one answers, and when it is refused. Assumes nothing.
-use Prim.Native.Nat.{ℕ, zero, suc}
+use Prim.Native.Nat.{ℕ, zero, suc, _<_}
 use mathlib.Core.Path.{_≡_, refl, sym, ap, _∙_}
 use mathlib.Core.Bool.{true, false, not, _&&_}
-use mathlib.Core.List.{[], _∷_}
+use mathlib.Core.List.{List, [], _∷_}
+use native.Mathlib.Omega.{arith}
 use borrow.Author.Tests.{eq-eqb, ne-eqb}
-use lib.Dec.{eqb}
+use lib.Dec.{leb, eqb}
+use lib.ListN.{length}
 use Rattle.vocabulary.specs.Refusal.{lentLength, outOfRange, noAccess, noIndex, readMode, stillWaiting}
 use Rattle.vocabulary.specs.Outcome.{Outcome, accepting, refusing}
-use Rattle.ms622424.specs.Ms622424.{Chip, Sound, registerAt, isPalette}
-use Rattle.ms622424.specs.Ms622424.{Colour, blue, selected, withState}
-use Rattle.ms622424.specs.Ms622424.{answers, readable, buffer, bufferByte, bufferStepped, readRefusals, read}
-use Rattle.ms622424.specs.declared.State.{State}
-use Rattle.ms622424.specs.Ms622424.{addressLow, addressHigh, green}
+use Rattle.vocabulary.specs.Component.{Component, red, green, blue}
+use Rattle.vocabulary.specs.Choice.{pick}
+use Rattle.vocabulary.specs.Face.{calledBy}
 use Rattle.vocabulary.proofs.Call.{stops, goes-on}
-use Rattle.ms622424.proofs.Access.{lengths-right, ranges-right}
+use Rattle.vocabulary.proofs.Choice.{cases}
+use Rattle.ms622424.specs.declared.Port.{Port}
+use Rattle.ms622424.specs.Ms622424.{Chip, InRange, registerAt, selected, withPort, mark, statusOf, statusByte}
+use Rattle.ms622424.specs.Ms622424.{fresh, buffer, bufferByte, bufferStepped, addressLow, addressHigh}
+use Rattle.ms622424.specs.Ms622424.{answers, readable, readRefusals, reads, called}
+use Rattle.ms622424.proofs.InRange.{lengths-right, ranges-right}
 
 -- a read of the address moves nothing, and neither does the buffer's green read
 pub address-read-keeps : (c : Chip) → (answers addressLow c .left ≡ c) × (answers addressHigh c .left ≡ c)
 unfolding answers
 address-read-keeps c = (refl, refl)
 
-pub green-read-keeps : (s : State) → bufferStepped green s ≡ s
+pub green-read-keeps : (p : Port) → bufferStepped green p ≡ p
 unfolding bufferStepped
-green-read-keeps s = refl
+green-read-keeps p = refl
 
-module _ (c : Chip) (h : Sound c) where
+-- a reset chip's status: empty, neither half full nor full
+pub fresh-status : (c : Chip) → statusByte (fresh c) ≡ 24
+unfolding statusByte statusOf mark pick
+fresh-status c = refl
+
+unreadable : (select : ℕ) (k : Component) → (select ≡ 0 → ⊥) → (select ≡ 1 → ⊥) → (select ≡ 2 → ⊥)
+    → (select ≡ 3 → ⊥) → (select ≡ 4 → ⊥) → (select ≡ 5 → ⊥) → (select ≡ 6 → ⊥) → (select ≡ 7 → ⊥)
+    → readable (registerAt select) k ≡ false
+unfolding registerAt readable
+unreadable zero k a b d e f g i j = absurd (a refl)
+unreadable (suc zero) k a b d e f g i j = absurd (b refl)
+unreadable (suc (suc zero)) k a b d e f g i j = absurd (d refl)
+unreadable (suc (suc (suc zero))) k a b d e f g i j = absurd (e refl)
+unreadable (suc (suc (suc (suc zero)))) k a b d e f g i j = absurd (f refl)
+unreadable (suc (suc (suc (suc (suc zero))))) k a b d e f g i j = absurd (g refl)
+unreadable (suc (suc (suc (suc (suc (suc zero)))))) k a b d e f g i j = absurd (i refl)
+unreadable (suc (suc (suc (suc (suc (suc (suc zero))))))) k a b d e f g i j = absurd (j refl)
+unreadable (suc (suc (suc (suc (suc (suc (suc (suc n)))))))) k a b d e f g i j = refl
+
+module _ (select : ℕ) (c : Chip) (h : InRange c) where
   -- a register that is read
-  pub read-does : (k select : ℕ) {o : Outcome Chip} → select ≡ k
-      → readable (registerAt k) (selected (c .state .counter)) ≡ true
-      → (isPalette (registerAt k) && eqb (c .state .readmode) 0) ≡ false
-      → (isPalette (registerAt k) && not (eqb (c .state .waiting) 0)) ≡ false
-      → o ≡ answers (registerAt k) c → o ≡ read select c
-  unfolding read
-  read-does k select e r p w d =
+  pub read-does : (k : ℕ) {o : Outcome Chip} → select ≡ k → readable (registerAt k) (selected (c .port)) ≡ true
+      → (eqb k 2 && eqb (c .control .readmode) 0) ≡ false → (eqb k 2 && not (eqb (length (c .waiting)) 0)) ≡ false
+      → o ≡ answers (registerAt k) c → o ≡ called (reads select) c
+  unfolding calledBy
+  read-does k e r p w d =
       rw e
       (d ∙ goes-on (readRefusals k c) 0 c (answers (registerAt k) c)
       (lengths-right c h, (ranges-right c h, (ap not r, (p, (w, tt))))))
 
   -- one that is not
-  pub read-no-access : (select : ℕ) → readable (registerAt select) (selected (c .state .counter)) ≡ false
-      → refusing 3 0 c ≡ read select c
-  unfolding read
-  read-no-access select e =
+  read-no-access : readable (registerAt select) (selected (c .port)) ≡ false → refusing 3 0 c ≡ called (reads select) c
+  unfolding calledBy
+  read-no-access e =
       stops (readRefusals select c) 0 c _ (lentLength ∷ outOfRange ∷ []) noAccess 2 _ refl refl
       (lengths-right c h, (ranges-right c h, tt)) (ap not e)
 
   -- the palette outside read mode, and with entries waiting
-  pub read-outside-mode : (select : ℕ) → select ≡ 2 → c .state .readmode ≡ 0 → refusing 5 0 c ≡ read select c
-  unfolding read registerAt readable
-  read-outside-mode select e f =
+  pub read-outside-mode : select ≡ 2 → c .control .readmode ≡ 0 → refusing 5 0 c ≡ called (reads select) c
+  unfolding calledBy registerAt readable
+  read-outside-mode e f =
       rw e
       (stops (readRefusals 2 c) 0 c _ (lentLength ∷ outOfRange ∷ noAccess ∷ noIndex ∷ []) readMode 4 _ refl refl
       (lengths-right c h, (ranges-right c h, (refl, (refl, tt)))) (eq-eqb _ 0 f))
 
-  pub read-waiting : (select : ℕ) → select ≡ 2 → (c .state .readmode ≡ 0 → ⊥) → (c .state .waiting ≡ 0 → ⊥)
-      → refusing 6 0 c ≡ read select c
-  unfolding read registerAt readable
-  read-waiting select e f g =
+  pub read-waiting : select ≡ 2 → (c .control .readmode ≡ 0 → ⊥) → (length (c .waiting) ≡ 0 → ⊥)
+      → refusing 6 0 c ≡ called (reads select) c
+  unfolding calledBy registerAt readable
+  read-waiting e f g =
       rw e
       (stops (readRefusals 2 c) 0 c _ (lentLength ∷ outOfRange ∷ noAccess ∷ noIndex ∷ readMode ∷ []) stillWaiting 5
       _ refl refl
       (lengths-right c h, (ranges-right c h, (refl, (refl, (ne-eqb _ 0 f, tt))))) (ap not (ne-eqb _ 0 g)))
 
-  -- the buffer at red and at green
-  pub read-buffer : (select : ℕ) (k : Colour) → select ≡ 5 → selected (c .state .counter) ≡ k
-      → readable buffer k ≡ true
-      → accepting (bufferByte k (c .state)) 0 (withState (bufferStepped k (c .state)) c) ≡ read select c
+  -- the buffer at red and at green, and at blue
+  pub read-buffer : (k : Component) {o : Outcome Chip} → select ≡ 5 → selected (c .port) ≡ k → readable buffer k ≡ true
+      → o ≡ accepting (bufferByte k (c .port)) 0 (withPort (bufferStepped k (c .port)) c) → o ≡ called (reads select) c
   unfolding registerAt answers
-  read-buffer select k e f r =
-      let ok : readable buffer (selected (c .state .counter)) ≡ true = rw f r in
-      read-does 5 select e ok refl refl
-      (ap (λ (j : Colour). accepting (bufferByte j (c .state)) 0 (withState (bufferStepped j (c .state)) c)) (sym f))
+  read-buffer k e f r d =
+      let ok : readable buffer (selected (c .port)) ≡ true = rw f r in
+      read-does 5 e ok refl refl
+      (d ∙ ap (λ (j : Component). accepting (bufferByte j (c .port)) 0 (withPort (bufferStepped j (c .port)) c)) (sym f))
 
--- the buffer at blue, and every select over 7
-pub buffer-at-blue : (select counter : ℕ) → select ≡ 5 → selected counter ≡ blue
-    → readable (registerAt select) (selected counter) ≡ false
-unfolding registerAt readable
-buffer-at-blue select counter e f = rw (e, f)
+  pub read-no-blue : select ≡ 5 → selected (c .port) ≡ blue → refusing 3 0 c ≡ called (reads select) c
+  unfolding registerAt readable
+  read-no-blue e f = read-no-access (rw (e, f))
 
-pub not-read : (select : ℕ) (k : Colour) → (select ≡ 0 → ⊥) → (select ≡ 1 → ⊥) → (select ≡ 2 → ⊥) → (select ≡ 3 → ⊥)
-    → (select ≡ 4 → ⊥) → (select ≡ 5 → ⊥) → (select ≡ 6 → ⊥) → (select ≡ 7 → ⊥)
-    → readable (registerAt select) k ≡ false
-unfolding registerAt readable
-not-read zero k a b d e f g i j = absurd (a refl)
-not-read (suc zero) k a b d e f g i j = absurd (b refl)
-not-read (suc (suc zero)) k a b d e f g i j = absurd (d refl)
-not-read (suc (suc (suc zero))) k a b d e f g i j = absurd (e refl)
-not-read (suc (suc (suc (suc zero)))) k a b d e f g i j = absurd (f refl)
-not-read (suc (suc (suc (suc (suc zero))))) k a b d e f g i j = absurd (g refl)
-not-read (suc (suc (suc (suc (suc (suc zero)))))) k a b d e f g i j = absurd (i refl)
-not-read (suc (suc (suc (suc (suc (suc (suc zero))))))) k a b d e f g i j = absurd (j refl)
-not-read (suc (suc (suc (suc (suc (suc (suc (suc n)))))))) k a b d e f g i j = refl
+  -- every other select
+  pub not-read : (select ≡ 0 → ⊥) → (select ≡ 1 → ⊥) → (select ≡ 2 → ⊥) → (select ≡ 3 → ⊥) → (select ≡ 4 → ⊥)
+      → (select ≡ 5 → ⊥) → (select ≡ 6 → ⊥) → (select ≡ 7 → ⊥) → refusing 3 0 c ≡ called (reads select) c
+  not-read a b d e f g i j = read-no-access (unreadable select _ a b d e f g i j)

@@ -1,21 +1,20 @@
-// The MS622424's outputs: the colour of a pixel, and the four timing signals.
+// The MS622424's output: the colour of a pixel.
 //
 // Source document 004, "Pin Descriptions", and document 01, "Chip B", decide; ms622424's specs/Ms622424.antt says it
-// (`pixel`, `sync`). Neither call changes anything. Not modelled: the pipeline's delay, the held colour while the
+// (`shown`, `pixelRefusals`). The call changes nothing. Not modelled: the pipeline's delay, the held colour while the
 // processor has the map, the pins' timing.
-use ms622424::Answer;
 use ms622424::Shown;
-use ms622424::State;
+use ms622424_places::State;
 ghost use mathlib.Core.Path.{_≡_};
-ghost use mathlib.Core.List.{List};
-ghost use Prim.Native.Nat.{ℕ, _<_};
-ghost use Rattle.ms622424.specs.Ms622424.{chip, outcome, showing, dark, Colour, pixelByte, entryShown, pixel};
-ghost use Rattle.ms622424.specs.Ms622424.{pipeOut, sync};
+ghost use Prim.Native.Nat.{_<_};
+ghost use Rattle.vocabulary.specs.Component.{Component};
+ghost use Rattle.ms622424.specs.Ms622424.{pixelByte, entryShown, showing, dark, pixels, called};
+ghost use Rattle.ms622424_places.specs.Places.{handed, view};
 
 // The entry that a gun shows, of which `byte` is the gun's own byte of the pixel.
 fn entry(mode: u8, word: u32, byte: u32) -> usize
     requires { ⌜ (mode < 4) × (byte < 256) ⌝ }
-    ensures { λ r. ⌜ (r < 8192) × ((k : Colour) → byte ≡ pixelByte k word → r ≡ entryShown mode word k) ⌝ }
+    ensures { λ r. ⌜ (r < 8192) × ((k : Component) → byte ≡ pixelByte k word → r ≡ entryShown mode word k) ⌝ }
 {
     match mode {
         0 => (word % 8192) as usize,
@@ -40,8 +39,8 @@ fn refused(refusal: u8) -> Shown
 // The colour of a pixel.
 #[no_mangle]
 pub extern "C" fn zk_b_pixel(s: State, mode: u8, word: u32, queue: &[u64], map: &[u8]) -> Shown
-    ensures { λ r. ⌜ showing r (chip s (now (queue .entry)) (now (map .entry)))
-        ≡ pixel mode word (chip s (now (queue .entry)) (now (map .entry))) ⌝ }
+    ensures { λ r. ⌜ showing r (view (handed s (now (queue .entry)) (now (map .entry))))
+        ≡ called (pixels mode word) (view (handed s (now (queue .entry)) (now (map .entry)))) ⌝ }
 {
     let refusal = ms622424_port::range::standing_tables(s, queue, map.len());
     if refusal != 0 {
@@ -62,28 +61,4 @@ pub extern "C" fn zk_b_pixel(s: State, mode: u8, word: u32, queue: &[u64], map: 
         green: map[green],
         blue: map[blue],
     }
-}
-
-// The first two signals with command bits 0 and 1, the others with bits 2 and 3.
-fn piped(command: u8, signals: u8) -> u8
-    requires { ⌜ (command < 32) × (signals < 16) ⌝ }
-    ensures { λ r. ⌜ r ≡ pipeOut command signals ⌝ }
-{
-    (signals & command & 3) | ((signals | command) & 12)
-}
-
-// The four timing signals. It is lent no map, since it reads none.
-#[no_mangle]
-pub extern "C" fn zk_b_sync(s: State, signals: u8, queue: &[u64]) -> Answer
-    ensures { λ r. ⌜ ((m : List ℕ) → outcome r (now (queue .entry)) m
-        ≡ sync signals (chip s (now (queue .entry)) m)) ⌝ }
-{
-    let refusal = ms622424_port::range::standing_queue(s, queue);
-    if refusal != 0 {
-        return ms622424_port::refused(refusal, s);
-    }
-    if 15 < signals {
-        return ms622424_port::refused(9, s);
-    }
-    ms622424_port::accepted(piped(s.command, signals), 0, s)
 }

@@ -1,14 +1,16 @@
 // The MS622424: what its calls share. The answers, the ranges that every call tries first, the step of a palette
 // access.
 //
-// Source document 004 and document 01, "Chip B", decide; ms622424's specs/Ms622424.antt says it. Not modelled: as
-// there.
+// Source document 004 and document 01, "Chip B", decide; ms622424's specs/Ms622424.antt says it. How the queue is kept
+// is not known here: ms622424_queue keeps it. Not modelled: as there.
 pub mod range;
 
-use ms622424::Answer;
-use ms622424::State;
+use ms622424::Port;
+use ms622424_places::Answer;
+use ms622424_places::State;
 ghost use mathlib.Core.Path.{_≡_};
-ghost use Rattle.ms622424.specs.Ms622424.{accept, refuse, selected, stepped};
+ghost use Rattle.ms622424.specs.Ms622424.{selected, stepped};
+ghost use Rattle.ms622424_places.specs.Places.{accept, refuse};
 
 // A refusal: the state as given, value and count 0.
 pub fn refused(refusal: u8, s: State) -> Answer
@@ -35,11 +37,11 @@ pub fn accepted(value: u8, count: u8, s: State) -> Answer
 }
 
 // A palette access moves the counter, and after blue the address.
-pub fn step(s: State) -> State
-    ensures { λ r. ⌜ r ≡ stepped (selected (s .counter)) s ⌝ }
+pub fn step(p: Port) -> Port
+    ensures { λ r. ⌜ r ≡ stepped (selected p) p ⌝ }
 {
-    let counter = s.counter;
-    let mut n = s;
+    let counter = p.counter;
+    let mut n = p;
     match counter {
         0 => {
             n.counter = 1;
@@ -51,7 +53,7 @@ pub fn step(s: State) -> State
         }
         _ => {
             n.counter = 0;
-            n.address = (s.address % 8192 + 1) % 8192;
+            n.address = (p.address % 8192 + 1) % 8192;
             n
         }
     }

@@ -1,16 +1,19 @@
 // The MS622424's reads at the MPU port.
 //
 // Source document 004, "Truth Table" and "Internal Registers", and document 01, "Chip B", decide; ms622424's
-// specs/Ms622424.antt says it (`read`). Not modelled: the pixels that a read of the map disturbs.
-use ms622424::Answer;
-use ms622424::State;
+// specs/Ms622424.antt says it (`answers`, `readRefusals`). Not modelled: the pixels that a read of the map disturbs.
+use ms622424::Control;
+use ms622424::Port;
+use ms622424_places::Answer;
+use ms622424_places::State;
 use ms622424_port::accepted;
 use ms622424_port::refused;
 ghost use mathlib.Core.Path.{_≡_};
 ghost use Prim.Native.Nat.{_+_, _*_, _<_, _≤_};
 ghost use lib.ListN.{length, getD};
 ghost use Rattle.vocabulary.specs.Choice.{pick};
-ghost use Rattle.ms622424.specs.Ms622424.{accept, chip, outcome, selected, stepped, statusByte, read};
+ghost use Rattle.ms622424.specs.Ms622424.{selected, stepped, statusOf, reads, called};
+ghost use Rattle.ms622424_places.specs.Places.{accept, handed, outcome, Does};
 
 // One of two numbers, by a test.
 fn choose(test: bool, yes: u8, no: u8) -> u8
@@ -21,64 +24,75 @@ fn choose(test: bool, yes: u8, no: u8) -> u8
 
 // The Status Register: the counter, and three flags that are active low.
 fn status(s: State) -> u8
-    requires { ⌜ s .counter < 3 ⌝ }
-    ensures { λ r. ⌜ r ≡ statusByte s ⌝ }
+    requires { ⌜ s .port .counter < 3 ⌝ }
+    ensures { λ r. ⌜ r ≡ statusOf (s .port .counter) (s .fifo .waiting) (s .control) ⌝ }
 {
-    let mark = choose(s.command / 16 % 2 == 0, 32, 56);
-    let empty = choose(s.waiting == 0, 0, 4);
-    let filled = choose(mark <= s.waiting, 0, 8);
-    let full = choose(s.waiting == 64, 0, 16);
-    s.counter + empty + filled + full
+    let mark = choose(s.control.command / 16 % 2 == 0, 32, 56);
+    let empty = choose(s.fifo.waiting == 0, 0, 4);
+    let filled = choose(mark <= s.fifo.waiting, 0, 8);
+    let full = choose(s.fifo.waiting == 64, 0, 16);
+    s.port.counter + empty + filled + full
 }
 
 // A read of the Color Palette that is not refused.
 fn read_palette(s: State, map: &[u8]) -> Answer
-    requires { ⌜ (length (now map) ≡ 24576) × (s .address < 8192) × (s .counter < 3) ⌝ }
-    ensures { λ r. ⌜ r ≡ accept (getD (now (map .entry)) (3 * s .address + s .counter) 0) 0
-        (stepped (selected (s .counter)) s) ⌝ }
+    requires { ⌜ (length (now map) ≡ 24576) × (s .port .address < 8192) × (s .port .counter < 3) ⌝ }
+    ensures { λ r. ⌜ r ≡ accept (getD (now (map .entry)) (3 * s .port .address + s .port .counter) 0) 0
+        (record {
+          port = stepped (selected (s .port)) (s .port);
+          control = s .control;
+          ident = s .ident;
+          fifo = s .fifo;
+        }) ⌝ }
 {
-    let at = 3 * (s.address as usize) + (s.counter as usize);
-    accepted(map[at], 0, ms622424_port::step(s))
+    let at = 3 * (s.port.address as usize) + (s.port.counter as usize);
+    let p = ms622424_port::step(s.port);
+    accepted(map[at], 0, State { port: p, ..s })
 }
 
 // A read of a select.
 #[no_mangle]
 pub extern "C" fn zk_b_read(s: State, select: u8, queue: &[u64], map: &[u8]) -> Answer
-    ensures { λ r. ⌜ outcome r (now (queue .entry)) (now (map .entry))
-        ≡ read select (chip s (now (queue .entry)) (now (map .entry))) ⌝ }
+    ensures { λ r. ⌜ Does (handed s (now (queue .entry)) (now (map .entry)))
+        (outcome r (now (queue .entry)) (now (map .entry))) (called (reads select)) ⌝ }
 {
     let refusal = ms622424_port::range::standing_tables(s, queue, map.len());
     if refusal != 0 {
         return refused(refusal, s);
     }
-    let counter = s.counter;
-    let mut n = s;
+    let counter = s.port.counter;
     match select {
-        0 => accepted((s.address % 256) as u8, 0, s),
-        1 => accepted((s.address / 256) as u8, 0, s),
+        0 => accepted((s.port.address % 256) as u8, 0, s),
+        1 => accepted((s.port.address / 256) as u8, 0, s),
         2 => {
-            if s.readmode == 0 {
+            if s.control.readmode == 0 {
                 return refused(5, s);
             }
-            if s.waiting != 0 {
+            if s.fifo.waiting != 0 {
                 return refused(6, s);
             }
             read_palette(s, map)
         }
-        3 => accepted(s.command, 0, s),
+        3 => accepted(s.control.command, 0, s),
         4 => accepted(status(s), 0, s),
         5 => match counter {
             0 => {
-                n.counter = 1;
-                accepted(s.red, 0, n)
+                let p = Port {
+                    counter: 1,
+                    ..s.port
+                };
+                accepted(s.port.red, 0, State { port: p, ..s })
             }
-            1 => accepted(s.green, 0, s),
+            1 => accepted(s.port.green, 0, s),
             _ => refused(3, s),
         },
-        6 => accepted(16 * s.board + s.revision, 0, s),
+        6 => accepted(16 * s.ident.board + s.ident.revision, 0, s),
         7 => {
-            n.readmode = 0;
-            accepted(0, 0, n)
+            let d = Control {
+                readmode: 0,
+                ..s.control
+            };
+            accepted(0, 0, State { control: d, ..s })
         }
         _ => refused(3, s),
     }

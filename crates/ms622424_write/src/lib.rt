@@ -1,74 +1,81 @@
 // The MS622424's write at the MPU port.
 //
 // Source document 004, "MPU Interface" and "Write FIFO", and document 01, "Chip B", decide; ms622424's
-// specs/Ms622424.antt says it (`write`). Not modelled: what the output shows during a transfer.
-use ms622424::Answer;
-use ms622424::State;
+// specs/Ms622424.antt says it (`written`, `writeRefusals`). Not modelled: what the output shows during a transfer.
+use ms622424::Control;
+use ms622424::Port;
+use ms622424_places::Answer;
+use ms622424_places::Moved;
+use ms622424_places::State;
 use ms622424_port::accepted;
 use ms622424_port::refused;
 ghost use mathlib.Core.Path.{_≡_};
+ghost use mathlib.Core.Bool.{true};
 ghost use mathlib.Core.List.{List};
-ghost use Prim.Native.Nat.{ℕ, _-_, _≤_, _<_};
+ghost use Prim.Native.Nat.{ℕ, _<_};
 ghost use lib.ListN.{length};
-ghost use Rattle.ms622424.specs.Ms622424.{Sound, chip, outcome, palette, written, write, made, queued, roomMade};
-ghost use Rattle.ms622424.specs.Ms622424.{selected, latched, packed, completed};
+ghost use Rattle.ms622424.specs.Ms622424.{InRange, made, roomMade, selected, taken, palette, written, writes, called};
+ghost use Rattle.ms622424_places.specs.Places.{right, handed, view, outcome, seen, Does};
 
-// A full queue makes room for four entries: how many it moved.
-fn make_room(s: State, queue: &mut [u64], map: &mut [u8]) -> u8
-    requires { ⌜ Sound (chip s (now queue) (now map)) ⌝ }
-    ensures { λ r. ⌜ (r ≤ s .waiting) × (s .waiting - r < 64)
-        × (made r (chip (queued s (s .waiting - r)) (now (queue .exit)) (now (map .exit)))
-        ≡ roomMade (chip s (now (queue .entry)) (now (map .entry)))) ⌝ }
+// A full queue makes room for four entries.
+fn make_room(s: State, queue: &mut [u64], map: &mut [u8]) -> Moved
+    requires { ⌜ InRange (view (handed s (now queue) (now map))) ⌝ }
+    ensures { λ r. ⌜ made (r .count) (view (handed (r .state) (now (queue .exit)) (now (map .exit))))
+        ≡ roomMade (view (handed s (now (queue .entry)) (now (map .entry)))) ⌝ }
 {
-    if s.waiting == 64 {
+    if s.fifo.waiting == 64 {
         return ms622424_queue::transfer(s, 4, queue, map);
     }
-    0
+    Moved { count: 0, state: s }
 }
 
-// The entry that a blue byte completes, as a place holds it.
-fn entry(s: State, blue: u8) -> u64
-    ensures { λ r. ⌜ r ≡ packed (completed s blue) ⌝ }
+// A byte for the palette, with room in the queue: red and green go to the buffer, blue completes.
+fn take_byte(s: State, byte: u8, queue: &mut [u64]) -> State
+    requires { ⌜ (length (now queue) ≡ 64) × (right (s .fifo) (now queue) ≡ true) × (s .fifo .waiting < 64) ⌝ }
+    ensures { λ r. ⌜ ((m : List ℕ) → view (handed r (now (queue .exit)) m)
+        ≡ taken (selected (s .port)) byte (view (handed s (now (queue .entry)) m))) ⌝ }
 {
-    (s.red as u64) + 256 * (s.green as u64) + 65536 * (blue as u64) + 16777216 * (s.address as u64)
-}
-
-// Red and green go to the buffer; blue completes, and its entry goes to the queue's end.
-fn latch(s: State, byte: u8, queue: &mut [u64]) -> State
-    requires { ⌜ (length (now queue) ≡ 64) × (s .waiting < 64) ⌝ }
-    ensures { λ r. ⌜ ((m : List ℕ) → chip r (now (queue .exit)) m
-        ≡ latched (selected (s .counter)) byte (chip s (now (queue .entry)) m)) ⌝ }
-{
-    let counter = s.counter;
-    let mut n = s;
+    let counter = s.port.counter;
     match counter {
         0 => {
-            n.red = byte;
-            n
+            let p = Port {
+                address: s.port.address,
+                counter: 1,
+                red: byte,
+                green: s.port.green,
+            };
+            State { port: p, ..s }
         }
         1 => {
-            n.green = byte;
-            n
+            let p = Port {
+                address: s.port.address,
+                counter: 2,
+                red: s.port.red,
+                green: byte,
+            };
+            State { port: p, ..s }
         }
         _ => {
-            let last = s.waiting as usize;
-            queue[last] = entry(s, byte);
-            n.waiting = s.waiting + 1;
-            n
+            let n = ms622424_queue::put(s, byte, queue);
+            let p = Port {
+                address: (s.port.address % 8192 + 1) % 8192,
+                counter: 0,
+                red: s.port.red,
+                green: s.port.green,
+            };
+            State { port: p, ..n }
         }
     }
 }
 
 // A write to the Color Palette Buffer that is not refused.
 fn write_palette(s: State, byte: u8, queue: &mut [u64], map: &mut [u8]) -> Answer
-    requires { ⌜ Sound (chip s (now queue) (now map)) ⌝ }
-    ensures { λ r. ⌜ outcome r (now (queue .exit)) (now (map .exit))
-        ≡ written palette byte (chip s (now (queue .entry)) (now (map .entry))) ⌝ }
+    requires { ⌜ InRange (view (handed s (now queue) (now map))) ⌝ }
+    ensures { λ r. ⌜ seen (outcome r (now (queue .exit)) (now (map .exit)))
+        ≡ written palette byte (view (handed s (now (queue .entry)) (now (map .entry)))) ⌝ }
 {
-    let moved = make_room(s, queue, map);
-    let mut n = s;
-    n.waiting = s.waiting - moved;
-    accepted(0, moved, ms622424_port::step(latch(n, byte, queue)))
+    let m = make_room(s, queue, map);
+    accepted(0, m.count, take_byte(m.state, byte, queue))
 }
 
 // A write of a byte to a select.
@@ -80,38 +87,51 @@ pub extern "C" fn zk_b_write(
     queue: &mut [u64],
     map: &mut [u8],
 ) -> Answer
-    ensures { λ r. ⌜ outcome r (now (queue .exit)) (now (map .exit))
-        ≡ write select byte (chip s (now (queue .entry)) (now (map .entry))) ⌝ }
+    ensures { λ r. ⌜ Does (handed s (now (queue .entry)) (now (map .entry)))
+        (outcome r (now (queue .exit)) (now (map .exit))) (called (writes select byte)) ⌝ }
 {
     let refusal = ms622424_port::range::standing_tables(s, queue, map.len());
     if refusal != 0 {
         return refused(refusal, s);
     }
-    let mut n = s;
     match select {
         0 => {
-            n.address = s.address / 256 * 256 + (byte as u16);
-            n.counter = 0;
-            accepted(0, 0, n)
+            let p = Port {
+                address: s.port.address / 256 * 256 + (byte as u16),
+                counter: 0,
+                red: s.port.red,
+                green: s.port.green,
+            };
+            accepted(0, 0, State { port: p, ..s })
         }
         1 => {
-            n.address = ((byte % 32) as u16) * 256 + s.address % 256;
-            n.counter = 0;
-            accepted(0, 0, n)
+            let p = Port {
+                address: ((byte % 32) as u16) * 256 + s.port.address % 256,
+                counter: 0,
+                red: s.port.red,
+                green: s.port.green,
+            };
+            accepted(0, 0, State { port: p, ..s })
         }
         2 => {
-            if s.readmode == 1 {
+            if s.control.readmode == 1 {
                 return refused(5, s);
             }
             write_palette(s, byte, queue, map)
         }
         3 => {
-            n.command = byte % 32;
-            accepted(0, 0, n)
+            let d = Control {
+                command: byte % 32,
+                readmode: s.control.readmode,
+            };
+            accepted(0, 0, State { control: d, ..s })
         }
         7 => {
-            n.readmode = 1;
-            accepted(0, 0, n)
+            let d = Control {
+                command: s.control.command,
+                readmode: 1,
+            };
+            accepted(0, 0, State { control: d, ..s })
         }
         _ => refused(3, s),
     }

@@ -5,15 +5,6 @@ use borrow.Author.Needs.{needs}
 use Rattle.ms622424_pixel.proofs.entry.Statement.{statement}
 use Rattle.ms622424_pixel.proofs.entry.Tie as tie
 
-returns : tie.Need-returns
-returns c = (omega arith, λ k e. entry-index _ _ k (c .match .keys1))
-
-returns-2 : tie.Need-returns-2
-returns-2 c = (omega arith, λ k e. entry-based 0 _ _ _ _ k (c .match .keys2) refl e)
-
-returns-3 : tie.Need-returns-3
-returns-3 c = (omega arith, λ k e. entry-based 1 _ _ _ _ k (c .match .keys3) refl e)
-
 returns-4 : tie.Need-returns-4
 returns-4 c =
     let last : c .before .args .mode
@@ -31,7 +22,7 @@ entry-spec =
     (λ c. search needs)
     (λ c. search needs)
     (λ c. search needs)
-    returns
-    returns-2
-    returns-3
+    (λ c. (omega arith, λ k e. entry-index _ _ k (c .match .keys1)))
+    (λ c. (omega arith, λ k e. entry-based 0 _ _ _ _ k (c .match .keys2) refl e))
+    (λ c. (omega arith, λ k e. entry-based 1 _ _ _ _ k (c .match .keys3) refl e))
     returns-4)

@@ -1,90 +1,49 @@
-use mathlib.Core.Path.{_≡_, refl, sym, _∙_}
-use mathlib.Core.List.{[], _∷_}
-use Prim.Native.Nat.{_^_}
+use mathlib.Core.Path.{refl}
 use native.Mathlib.Omega.{arith}
-use Rattle.vocabulary.specs.Range.{below, fails}
-use Rattle.ms622424.specs.declared.Shown.{Shown}
-use Rattle.ms622424.specs.Ms622424.{Chip, chip, Sound, ranges, shortTable, showing, red, green, blue, pixelByte}
-use Rattle.ms622424.specs.Ms622424.{pixelRefusals, pixel}
-use Rattle.ms622424.proofs.Standing.{sound}
-use Rattle.vocabulary.proofs.Range.{fails-right}
-use Rattle.vocabulary.proofs.Call.{tried-first}
-use Rattle.ms622424_pixel.proofs.Outputs.{pixel-outside, pixel-does}
+use Rattle.vocabulary.specs.Component.{red, green, blue}
+use Rattle.ms622424.specs.Ms622424.{InRange, pixelByte}
+use Rattle.ms622424.proofs.InRange.{past, tried}
+use Rattle.ms622424.proofs.Pixel.{pixel-outside, pixel-does}
+use Rattle.ms622424_places.specs.Places.{handed, view}
+use Rattle.ms622424_pixel.proofs.Outputs.{shows-none}
 use borrow.Author.Needs.{needs}
 use Rattle.ms622424_pixel.proofs.zk_b_pixel.Statement.{statement}
 use Rattle.ms622424_pixel.proofs.zk_b_pixel.Tie as tie
 
--- the chip as the call finds it, and what is known past what is tried first
-abbrev given : tie.Start → Chip
-given c = chip (c .args .s) (c .args .queue .now) (c .args .map .now)
-
-known : (c : tie.Else1) → Sound (given (c .before .before .before .before))
-known c =
-    let map = c .before .before .before .before .args .map .now in
-    sound _ (sym (c .before .standing-tables .ensures map refl) ∙ c .if1 .left)
-
--- the same answer shows the same
-same : (c : tie.Start) {a b : Shown} → a ≡ b → showing a (given c) ≡ showing b (given c)
-same c e = rw e refl
-
-returns : tie.Need-returns
-unfolding pixel
-returns c =
-    let start = c .before .before .before .before .before in
-    let d = given start in
-    same start (c .refused .ensures)
-    ∙ tried-first (pixelRefusals (start .args .mode) (start .args .word) d) 0 d _ (shortTable d) (fails (ranges d)) _
-    refl
-    (fails-right (below (start .args .mode) 4 ∷ below (start .args .word) (2 ^ 24) ∷ []) (ranges d))
-    (c .before .before .standing-tables .ensures (d .map) refl) (c .before .if1 .taken)
+-- what is known past what is tried first
+known : (c : tie.Else1)
+    → let a = c .before .before .before .before .args in InRange (view (handed (a .s) (a .queue .now) (a .map .now)))
+known c = past _ (c .before .standing-tables .ensures) (c .if1 .left)
 
 returns-2 : tie.Need-returns-2
-returns-2 c =
-    let past = c .before .before in
-    same (past .before .before .before .before) (c .refused2 .ensures)
-    ∙ pixel-outside _ _ _ (known past) (λ m w. omega arith)
+returns-2 c = shows-none _ _ _ (c .refused2 .ensures) (pixel-outside _ _ _ (known (c .before .before)) (λ m w. omega arith))
 
 returns-3 : tie.Need-returns-3
 returns-3 c =
-    let past = c .before .before .before in
-    same (past .before .before .before .before) (c .refused3 .ensures)
-    ∙ pixel-outside _ _ _ (known past) (λ m w. omega arith)
+    shows-none _ _ _ (c .refused3 .ensures) (pixel-outside _ _ _ (known (c .before .before .before)) (λ m w. omega arith))
 
-shared-slice-read-t16 : tie.Need-shared-slice-read-t16
-shared-slice-read-t16 c =
-    omega (
-      arith,
-      known (c .before .before .before .before .before .before),
-      c .before .before .before .entry
-          .ensures .0,
-    )
+-- the three reads of the map
+reads-red : tie.Need-shared-slice-read-t16
+reads-red c =
+    let e = c .before .before .before in omega (arith, known (e .before .before .before) .size, e .entry .ensures .0)
 
-shared-slice-read-t18 : tie.Need-shared-slice-read-t18
-shared-slice-read-t18 c =
-    omega (
-      arith,
-      known (c .before .before .before .before .before .before .before),
-      c .before .before .before
-          .entry2 .ensures .0,
-    )
+reads-green : tie.Need-shared-slice-read-t18
+reads-green c =
+    let e = c .before .before .before in
+    omega (arith, known (e .before .before .before .before) .size, e .entry2 .ensures .0)
 
-shared-slice-read-t20 : tie.Need-shared-slice-read-t20
-shared-slice-read-t20 c =
-    omega (
-      arith,
-      known (c .before .before .before .before .before .before .before .before),
-      c .before .before
-          .before .entry3 .ensures .0,
-    )
+reads-blue : tie.Need-shared-slice-read-t20
+reads-blue c =
+    let e = c .before .before .before in
+    omega (arith, known (e .before .before .before .before .before) .size, e .entry3 .ensures .0)
 
 returns-4 : tie.Need-returns-4
 unfolding pixelByte
 returns-4 c =
     let last = c .before .before .before in
-    let past = last .before .before .before .before .before in
     let g = last .before in
-    pixel-does _ _ _ (known past) (omega arith) (omega arith) _ _ _ (g .before .entry .ensures .1 red refl)
-    (g .entry2 .ensures .1 green refl) (last .entry3 .ensures .1 blue refl)
+    pixel-does _ _ _ (known (g .before .before .before .before)) (omega arith) (omega arith)
+    (g .before .entry .ensures .1 red refl) (g .entry2 .ensures .1 green refl) (last .entry3 .ensures .1 blue refl)
 
 pub zk-b-pixel-spec : {M : Type 1} → statement M
 zk-b-pixel-spec =
@@ -92,7 +51,7 @@ zk-b-pixel-spec =
     (tie.spec
     (λ c κs. search needs)
     (λ c κs. search needs)
-    returns
+    (λ c. search (shows-none, tried, needs))
     (λ c κs. search needs)
     returns-2
     (λ c κs. search needs)
@@ -105,7 +64,7 @@ zk-b-pixel-spec =
     (λ c κs. search needs)
     (λ c. search needs)
     (λ c. search needs)
-    shared-slice-read-t16
-    shared-slice-read-t18
-    shared-slice-read-t20
+    reads-red
+    reads-green
+    reads-blue
     returns-4)

@@ -1,32 +1,47 @@
+use Prim.Native.Nat.{_<_}
 use native.Mathlib.Omega.{arith}
-use Rattle.ms622424.specs.Ms622424.{chip}
-use Rattle.ms622424.proofs.Standing.{place-below}
-use Rattle.ms622424.proofs.Waiting.{transferred}
+use Rattle.ms622424_places.proofs.Places.{few}
+use Rattle.ms622424_queue.proofs.Moved.{place-below, transferred}
 use borrow.Author.Needs.{needs}
 use Rattle.ms622424_queue.proofs.transfer.Statement.{statement}
 use Rattle.ms622424_queue.proofs.transfer.Tie as tie
 
+small : (c : tie.Start) → c .args .s .fifo .waiting < 65
+small c = few (c .args .s .fifo) (c .args .queue .now) (c .pre .right)
+
 store-oldest-requires : tie.Need-store-oldest-requires
 store-oldest-requires c κs =
     let start = c .before .before .before .before .before in
+    let a = start .args in
     let h = start .pre in (
-      (h .1, h .0, omega arith),
-      place-below
-          (chip (start .args .s) (start .args .queue .now) (start .args .map .now)) h,
+      (h .size, h .places, omega (arith, small start)),
+      place-below (a .s .fifo) (a .queue .now) (h .places) (h .right) (h .in-map),
     )
+
+move-down-requires : tie.Need-move-down-requires
+move-down-requires c κs =
+    let start = c .before .before .before .before .before .before .before .before .before in
+    let n = small start in
+    let l = start .pre .places in
+    (omega arith, omega arith)
+
+clear-requires : tie.Need-clear-requires
+clear-requires c κs =
+    let down = c .before .before .before .before in
+    let start = down .before .before .before .before .before .before .before .before .before in
+    let n = small start in
+    let l = start .pre .places in
+    (omega arith, omega arith)
 
 returns : tie.Need-returns
 returns c =
-    let down = c .before .before .before .before .before .before in
+    let cleared = c .before .before .before .before .before in
+    let down = cleared .before .before .before .before in
     let stores = down .before .before .before .before in
     let start = stores .before .before .before .before .before .before in
     let a = start .args in
-    let moved = stores .store-oldest in (
-      moved .ensures .0,
-      transferred (a .slots) (moved .result) (chip (a .s) (a .queue .now) (a .map .now)) _ _ _ (start .pre)
-          (moved .ensures .0)
-          (down .move-down .ensures) (c .before .before .clear .ensures) (moved .ensures .1),
-    )
+    transferred (a .slots) _ (a .s) (a .queue .now) _ _ (a .map .now) _ (start .pre) (stores .store-oldest .ensures .0)
+    (down .move-down .ensures) (cleared .clear .ensures) (stores .store-oldest .ensures .1)
 
 pub transfer-spec : {M : Type 1} → statement M
 transfer-spec =
@@ -34,9 +49,11 @@ transfer-spec =
     (tie.spec
     (λ c. search needs)
     store-oldest-requires
-    (λ c κs. search needs)
+    move-down-requires
     (λ c. search needs)
-    (λ c κs. search needs)
+    clear-requires
+    (λ c. search needs)
+    (λ c. search needs)
     (λ c. search needs)
     (λ c. search needs)
     (λ c. search needs)

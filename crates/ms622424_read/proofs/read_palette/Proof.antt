@@ -1,11 +1,7 @@
-use mathlib.Core.Path.{ap, _∙_}
-use Rattle.ms622424.specs.Ms622424.{accept}
+use Rattle.ms622424_read.proofs.Arms.{steps}
 use borrow.Author.Needs.{needs}
 use Rattle.ms622424_read.proofs.read_palette.Statement.{statement}
 use Rattle.ms622424_read.proofs.read_palette.Tie as tie
-
-returns : tie.Need-returns
-returns c = c .accepted .ensures ∙ ap (accept _ 0) (c .before .step .ensures)
 
 pub read-palette-spec : {M : Type 1} → statement M
 read-palette-spec =
@@ -15,7 +11,7 @@ read-palette-spec =
     (λ c. search needs)
     (λ c. search needs)
     (λ c. search needs)
+    (λ c κs. search needs)
     (λ c. search needs)
     (λ c κs. search needs)
-    (λ c κs. search needs)
-    returns)
+    (λ c. search (steps, needs)))

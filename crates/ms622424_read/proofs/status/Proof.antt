@@ -1,10 +1,10 @@
-use Rattle.ms622424.specs.Ms622424.{statusByte, mark}
+use Rattle.ms622424.specs.Ms622424.{statusOf, mark}
 use borrow.Author.Needs.{needs}
 use Rattle.ms622424_read.proofs.status.Statement.{statement}
 use Rattle.ms622424_read.proofs.status.Tie as tie
 
 returns : tie.Need-returns
-unfolding statusByte mark
+unfolding statusOf mark
 returns c =
     let filled = c .before .before .before in
     let empty = filled .before .before in

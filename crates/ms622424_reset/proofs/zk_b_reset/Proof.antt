@@ -1,0 +1,45 @@
+use mathlib.Core.Path.{ap, _∙_}
+use native.Mathlib.Omega.{arith}
+use Rattle.vocabulary.specs.Outcome.{accepting}
+use Rattle.ms622424.proofs.Reset.{reset-short, reset-outside, reset-does}
+use Rattle.ms622424_places.proofs.Does.{refuses, accepts, fresh-chip}
+use borrow.Author.Needs.{needs}
+use Rattle.ms622424_reset.proofs.zk_b_reset.Statement.{statement}
+use Rattle.ms622424_reset.proofs.zk_b_reset.Tie as tie
+
+returns : tie.Need-returns
+returns c m = refuses _ _ m _ _ (c .refused .ensures) (reset-short _ (c .before .if1 .taken))
+
+returns-2 : tie.Need-returns-2
+returns-2 c m =
+    refuses _ _ m _ _ (c .refused2 .ensures) (reset-outside _ (c .before .before .before .if1 .left) (λ g. omega arith))
+
+returns-3 : tie.Need-returns-3
+returns-3 c m =
+    refuses _ _ m _ _ (c .refused3 .ensures)
+    (reset-outside _ (c .before .before .before .before .before .if1 .left) (λ g. omega arith))
+
+returns-4 : tie.Need-returns-4
+returns-4 c m =
+    let emptied = c .before .before .before .before in
+    let past = emptied .before .before .before .before .before .before in
+    let a = past .before .before .args in
+    let e = emptied .empty in
+    accepts (a .s) (a .queue .now) m _ _ _ _ (c .accepted .ensures)
+    (ap (accepting 0 0) (fresh-chip (a .s) (a .queue .now) m _ (e .result) (e .kept .0) (e .ensures .0) (e .ensures .1))
+    ∙ reset-does _ (past .if1 .left) (omega arith, (omega arith, tt)))
+
+pub zk-b-reset-spec : {M : Type 1} → statement M
+zk-b-reset-spec =
+    tie.close
+    (tie.spec
+    (λ c κs. search needs)
+    returns
+    (λ c κs. search needs)
+    returns-2
+    (λ c κs. search needs)
+    returns-3
+    (λ c κs. search needs)
+    (λ c κs. search needs)
+    (λ c. search needs)
+    returns-4)

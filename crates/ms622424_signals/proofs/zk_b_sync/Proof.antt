@@ -1,0 +1,45 @@
+use mathlib.Core.List.{[]}
+use native.Mathlib.Omega.{arith}
+use Rattle.ms622424.proofs.Signals.{signals-tried, signals-outside, signals-range, signals-does}
+use Rattle.ms622424_places.specs.Places.{handed, view}
+use Rattle.ms622424_places.proofs.Does.{refuses, accepts}
+use borrow.Author.Needs.{needs}
+use Rattle.ms622424_signals.proofs.zk_b_sync.Statement.{statement}
+use Rattle.ms622424_signals.proofs.zk_b_sync.Tie as tie
+
+returns : tie.Need-returns
+returns c m =
+    refuses _ _ m _ _ (c .refused .ensures)
+    (signals-tried _ _ (c .before .before .standing-queue .ensures) (c .before .if1 .taken))
+
+returns-2 : tie.Need-returns-2
+returns-2 c m =
+    let past = c .before .before in
+    refuses _ _ m _ _ (c .refused2 .ensures)
+    (signals-outside _ _ (past .before .standing-queue .ensures) (past .if1 .left) (omega arith))
+
+piped-requires : tie.Need-piped-requires
+piped-requires c κs =
+    let past = c .before in
+    let a = past .before .before .before .args in
+    let r = signals-range 0 (view (handed (a .s) (a .queue .now) [])) (past .before .standing-queue .ensures) (past .if1 .left) in
+    (omega arith, omega arith)
+
+returns-3 : tie.Need-returns-3
+returns-3 c m =
+    let past = c .before .before .before in
+    accepts _ _ m _ _ _ _ (c .accepted .ensures)
+    (signals-does _ _ (past .before .standing-queue .ensures) (past .if1 .left) (omega arith) (c .before .piped .ensures))
+
+pub zk-b-sync-spec : {M : Type 1} → statement M
+zk-b-sync-spec =
+    tie.close
+    (tie.spec
+    (λ c κs. search needs)
+    (λ c κs. search needs)
+    returns
+    (λ c κs. search needs)
+    returns-2
+    piped-requires
+    (λ c κs. search needs)
+    returns-3)
