@@ -16,11 +16,7 @@ use Rattle.answers.specs.declared.Text.{Text}
 use Rattle.answers.specs.Answers.{told, Says}
 use Rattle.turns.specs.Turns.{Turn, turn, Took}
 use Rattle.board.specs.declared.Board.{Board}
-use Rattle.board.specs.declared.Step.{Step}
-use Rattle.board.specs.Board.{Whole, turned, chipTurn, sheetTurn, Answers}
-
-abbrev pub step : Board → Text → ℕ → Step
-step board text listed = record { board = board; text = text; listed = listed }
+use Rattle.board.specs.Board.{Whole, turned, chipTurn, sheetTurn, step, Answers}
 
 pub says-text : (b : Board) (t : Text) (page : List ℕ) {line : List ℕ} → Says t line → Answers (step b t 0) page line
 says-text b t page s = record {

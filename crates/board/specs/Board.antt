@@ -14,6 +14,7 @@ use Rattle.log.specs.declared.Chip.the-variants.{ChipA, ChipB, ChipC}
 use Rattle.log.specs.declared.Call.{Call}
 use Rattle.log.specs.declared.Line.{Line}
 use Rattle.log.specs.declared.Line.the-variants.{To, Choose, Expand, Sheet, Bad}
+use Rattle.answers.specs.declared.Text.{Text}
 use Rattle.answers.specs.Answers.{told, okText}
 use Rattle.turns.specs.Turns.{Turn, turn, bad, Took, expandText}
 use Rattle.turns_a.specs.Turns.{aTurn}
@@ -105,6 +106,9 @@ whole s colours overlays queue map table page = record {
   chosen = s .chosen;
   page = page;
 }
+
+abbrev pub step : Board → Text → ℕ → Step
+step board text listed = record { board = board; text = text; listed = listed }
 
 -- a step's answer: its text, and behind it the page's first bytes
 pub record Answers (r : Step) (page text : List ℕ) : Type 0 where
