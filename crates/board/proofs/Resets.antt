@@ -29,7 +29,7 @@ b-started a queue map c page l =
     (sym (reset-does (view (handed revised queue map)) l (omega arith, (omega arith, tt))))
 
 -- each chip's reset, of any state of A and C
-module _ {ra : AA.Answer} {sa : AS.State} {rb : BA.Answer} {sb : BS.State} {rc : CA.Answer} {sc : CS.State}
+module _ {ra : AA.Answer} (sa : AS.State) {rb : BA.Answer} {sb : BS.State} {rc : CA.Answer} (sc : CS.State)
     {queue after : List ℕ} where
   pub starts : ((cs os : List ℕ) → A.outcome ra cs os ≡ A.called A.resets (A.chip sa cs os)) → sb ≡ revised
       → ((m : List ℕ) → Does (handed sb queue m) (outcome rb after m) (B.called B.resets))

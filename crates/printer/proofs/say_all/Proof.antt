@@ -2,8 +2,8 @@ use Prim.Native.Nat.{_≤_, _-_}
 use mathlib.Core.Path.{_≡_, refl}
 use lib.ListN.{length}
 use borrow.Author.Needs.{needs}
-use Rattle.replay.proofs.say_all.Statement.{statement}
-use Rattle.replay.proofs.say_all.Tie as tie
+use Rattle.printer.proofs.say_all.Statement.{statement}
+use Rattle.printer.proofs.say_all.Tie as tie
 
 abbrev Inv-loop : tie.InvT-loop
 Inv-loop bytes out₀ waiting at₀ i₀ out at i = (i ≤ length bytes) × (length out ≡ length out₀)

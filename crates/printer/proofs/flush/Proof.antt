@@ -1,8 +1,8 @@
 use mathlib.Core.Path.{sym}
 use lib.Seq.{length-take-le}
 use borrow.Author.Needs.{needs}
-use Rattle.replay.proofs.flush.Statement.{statement}
-use Rattle.replay.proofs.flush.Tie as tie
+use Rattle.printer.proofs.flush.Statement.{statement}
+use Rattle.printer.proofs.flush.Tie as tie
 
 slice-aggregate-write-all : tie.Need-slice-aggregate-write-all
 slice-aggregate-write-all c = sym (length-take-le _ _ (search needs))

@@ -1,8 +1,8 @@
 use mathlib.Core.Path.{sym}
 use lib.Seq.{length-take-le}
 use borrow.Author.Needs.{needs}
-use Rattle.replay.proofs.say_first.Statement.{statement}
-use Rattle.replay.proofs.say_first.Tie as tie
+use Rattle.printer.proofs.say_first.Statement.{statement}
+use Rattle.printer.proofs.say_first.Tie as tie
 
 slice-aggregate-say-all : tie.Need-slice-aggregate-say-all
 slice-aggregate-say-all c = sym (length-take-le _ _ (search needs))
