@@ -1,6 +1,6 @@
 -- What a step answers: a text alone, or the page that the sheet writer filled. Assumes nothing.
 use Prim.Native.Nat.{ℕ}
-use mathlib.Core.Path.{_≡_, sym, ap, _∙_}
+use mathlib.Core.Path.{_≡_, refl, sym, ap, _∙_}
 use mathlib.Core.List.{List, [], append-nil}
 use native.Mathlib.Omega.{arith}
 use lib.ListN.{length, take, length-append}
@@ -14,12 +14,9 @@ use Rattle.log.specs.declared.Chip as L
 use Rattle.log.specs.declared.Call.{Call}
 use Rattle.answers.specs.declared.Text.{Text}
 use Rattle.answers.specs.Answers.{told, Says}
+use Rattle.turns.specs.Turns.{Turn, turn, Took}
 use Rattle.board.specs.declared.Board.{Board}
-use Rattle.board.specs.declared.Step.{Step}
-use Rattle.board.specs.Board.{Whole, called, listed, Answers, Took}
-
-abbrev step : Board → Text → ℕ → Step
-step board text listed = record { board = board; text = text; listed = listed }
+use Rattle.board.specs.Board.{Whole, turned, chipTurn, sheetTurn, step, Answers}
 
 pub says-text : (b : Board) (t : Text) (page : List ℕ) {line : List ℕ} → Says t line → Answers (step b t 0) page line
 says-text b t page s = record {
@@ -27,6 +24,15 @@ says-text b t page s = record {
   long = omega arith;
   is = append-nil (take (t .len) (t .bytes)) ∙ s .is;
 }
+
+-- a line that is answered by a text and leaves what it names; a chip's turn as the board's
+module _ {b : Board} {text : Text} (page : List ℕ) where
+  pub took-text : {line : List ℕ} (w : Whole) → Says text line → Took (Answers (step b text 0) page) w (turn line w)
+  took-text w s = record { says = says-text b text page s; leaves = refl }
+
+  pub took-turned : {C : Type 0} {left : C} {t : Turn C} (with : C → Whole) → Took (Says text) left t
+      → Took (Answers (step b text 0) page) (with left) (turned with t)
+  took-turned with t = record { says = says-text b text page (t .says); leaves = ap with (t .leaves) }
 
 -- the writer's text has bytes
 text-counts : (a : Chip) → length (textOf a) ≡ 0 → ⊥
@@ -58,11 +64,9 @@ module _ (a : Chip) (page : List ℕ) (n : ℕ) (out : List ℕ) where
       text-counts a (sym (ap (λ (o : Outcome (List ℕ)). o .count) d))
 
 -- a turn taken at the chip that was found chosen
-module _ {r : Step} {colours overlays queue map table page : List ℕ} (w : Whole) {k j : L.Chip} (e : k ≡ j) where
-  pub took-called : (call : Call) → Took r colours overlays queue map table page (called j call w)
-      → Took r colours overlays queue map table page (called k call w)
-  took-called call t = rw e t
+module _ {Said : List ℕ → Type 0} {left : Whole} (w : Whole) {k j : L.Chip} (e : k ≡ j) where
+  pub call-at : (call : Call) → Took Said left (chipTurn j call w) → Took Said left (chipTurn k call w)
+  call-at call t = rw e t
 
-  pub took-listed : Took r colours overlays queue map table page (listed j w)
-      → Took r colours overlays queue map table page (listed k w)
-  took-listed t = rw e t
+  pub sheet-at : Took Said left (sheetTurn j w) → Took Said left (sheetTurn k w)
+  sheet-at t = rw e t

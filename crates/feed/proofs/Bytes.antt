@@ -1,54 +1,55 @@
--- One byte: held, or the end of a line. Assumes nothing.
+-- Bytes: held, or the end of a line; a text up to its first LF. Assumes nothing.
 use Prim.Native.Nat.{ℕ, _+_, _≤_, _<_}
-use mathlib.Core.Path.{_≡_, refl, ap}
-use mathlib.Core.List.{List, []}
-use lib.ListN.{length, take, set}
-use borrow.Author.Tests.{lt-ltb, le-ltb, eq-eqb, ne-eqb}
+use mathlib.Core.Path.{_≡_, refl, sym, _∙_}
+use mathlib.Core.List.{List, [], _∷_, _++_, append-nil, append-assoc}
+use native.Mathlib.Numerals.{add-one}
+use lib.ListN.{length, getD, take}
+use lib.Seq.{take-suc}
+use borrow.Author.Tests.{eq-eqb, ne-eqb}
 use Rattle.vocabulary.proofs.Choice.{picks-first, picks-second}
-use Rattle.log.specs.declared.Line.{Line}
-use Rattle.log.specs.Log.{lineOf}
-use Rattle.turns.specs.Turns.{Turn, turn}
-use Rattle.board.specs.declared.Board.{Board}
-use Rattle.board.specs.declared.Step.{Step}
-use Rattle.board.specs.Board as B
-use Rattle.board.proofs.Steps.{says-text}
-use Rattle.answers.specs.declared.Text.{Text}
-use Rattle.answers.specs.Answers.{Says}
-use Rattle.feed.specs.declared.Fed.{Fed}
-use Rattle.feed.specs.Feed.{Desk, desk, ended, kept, byteTurn, Took}
+use Rattle.turns.specs.Turns.{turn}
+use Rattle.board.specs.Board.{Whole}
+use Rattle.hold.specs.Hold.{Hold, holding, holdingAll, before, upTo, Within, heldOf}
+use Rattle.hold.proofs.Texts.{before-is-lf, before-within, up-to-lf, up-to-all}
+use Rattle.feed.specs.Feed.{Desk, desk, ended, byteTurn, fed}
 
-module _ (b : ℕ) (w : B.Whole) (hold : List ℕ) (held : ℕ) where
-  pub kept-room : held < length hold → kept b (desk w hold held) ≡ desk w (set hold held b) (held + 1)
-  unfolding kept
-  kept-room h = picks-first _ _ (lt-ltb held (length hold) h)
+module _ (b : ℕ) (d : Desk) where
+  pub byte-ends : b ≡ 10 → byteTurn b d ≡ ended d
+  unfolding byteTurn
+  byte-ends e = picks-first _ _ (eq-eqb b 10 e)
 
-  pub kept-full : length hold ≤ held → kept b (desk w hold held) ≡ desk w hold held
-  unfolding kept
-  kept-full h = picks-second _ _ (le-ltb held (length hold) h)
+  pub byte-holds : (b ≡ 10 → ⊥) → byteTurn b d ≡ turn [] (desk (d .board) (holding b (d .hold)))
+  unfolding byteTurn
+  byte-holds h = picks-second _ _ (ne-eqb b 10 h)
 
-pub byte-ends : (b : ℕ) (d : Desk) → b ≡ 10 → byteTurn b d ≡ ended d
-unfolding byteTurn
-byte-ends b d e = picks-first _ _ (eq-eqb b 10 e)
+-- bytes behind bytes
+pub fed-more : (xs ys : List ℕ) (d : Desk)
+    → fed (xs ++ ys) d ≡ turn (fed xs d .text ++ fed ys (fed xs d .left) .text) (fed ys (fed xs d .left) .left)
+unfolding fed
+fed-more [] ys d = refl
+fed-more (x ∷ xs) ys d = rw (fed-more xs ys (byteTurn x d .left), append-assoc)
 
-pub byte-holds : (b : ℕ) (d : Desk) → (b ≡ 10 → ⊥) → byteTurn b d ≡ turn [] (kept b d)
-unfolding byteTurn
-byte-holds b d h = picks-second _ _ (ne-eqb b 10 h)
+-- bytes that are no LF are held, and answer nothing
+pub fed-held : (bs : List ℕ) (w : Whole) (h : Hold) → Within bs
+    → fed bs (desk w h) ≡ turn [] (desk w (holdingAll bs h))
+unfolding fed holdingAll
+fed-held [] w h n = refl
+fed-held (b ∷ bs) w h n = rw (byte-holds b (desk w h) (n .0)) (fed-held bs w (holding b h) (n .1))
 
--- what was taken, under an equal turn; the board's turn at a line's end; a byte that was held
-module _ {colours overlays queue map table page : List ℕ} where
-  pub took-as : {r : Fed} {hold : List ℕ} {t u : Turn Desk} → t ≡ u
-      → Took r hold colours overlays queue map table page u → Took r hold colours overlays queue map table page t
-  took-as e t = rw e t
+-- with an LF behind them the line is put to the board
+pub fed-ended : (bs : List ℕ) (w : Whole) (h : Hold) → Within bs
+    → fed (bs ++ 10 ∷ []) (desk w h) ≡ ended (desk w (holdingAll bs h))
+unfolding fed
+fed-ended bs w h n =
+    fed-more bs (10 ∷ []) (desk w h)
+    ∙ rw (fed-held bs w h n, byte-ends 10 (desk w (holdingAll bs h)) refl, append-nil)
 
-  pub took-line : (step : Step) (w : B.Whole) (hold : List ℕ) (held taken : ℕ) (line : Line)
-      → line ≡ lineOf (take held hold) → B.Took step colours overlays queue map table page (B.boardTurn line w)
-      → Took (record { step = step; held = 0; taken = taken }) hold colours overlays queue map table page
-      (ended (desk w hold held))
-  took-line step w hold held taken line e t =
-      let u = rw e at t in
-      record { says = u .says; leaves = ap (λ (x : B.Whole). desk x hold 0) (u .leaves) }
+-- a text up to its first LF, and one that has none
+module _ (t : List ℕ) (w : Whole) (h : Hold) where
+  pub fed-line : before t < length t → fed (take (upTo t) t) (desk w h) ≡ ended (desk w (heldOf t h))
+  fed-line g =
+      rw (sym (up-to-lf t g), add-one, take-suc t (before t) 0 g, before-is-lf t g) (fed-ended (take (before t) t) w h
+      (before-within t))
 
-  pub took-silent : (board : Board) (t : Text) (hold : List ℕ) (held taken : ℕ) → Says t []
-      → Took (record { step = record { board = board; text = t; listed = 0 }; held = held; taken = taken }) hold colours
-      overlays queue map table page (turn [] (desk (B.whole board colours overlays queue map table page) hold held))
-  took-silent board t hold held taken s = record { says = says-text board t page s; leaves = refl }
+  pub fed-part : length t ≤ before t → fed (take (upTo t) t) (desk w h) ≡ turn [] (desk w (heldOf t h))
+  fed-part g = rw (sym (up-to-all t g)) (fed-held (take (before t) t) w h (before-within t))

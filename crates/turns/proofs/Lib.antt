@@ -1,1 +1,1 @@
-pub mod Poured
+pub mod Told

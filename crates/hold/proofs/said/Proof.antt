@@ -1,0 +1,20 @@
+use mathlib.Core.Path.{sym}
+use native.Mathlib.Omega.{arith}
+use lib.Seq.{length-take-le, take-all}
+use borrow.Author.Needs.{needs}
+use Rattle.hold.proofs.said.Statement.{statement}
+use Rattle.hold.proofs.said.Tie as tie
+
+slice-aggregate-parse : tie.Need-slice-aggregate-parse
+slice-aggregate-parse c =
+    sym (length-take-le _ _ (search needs))
+
+returns-2 : tie.Need-returns-2
+returns-2 c =
+    let g = c .before .before .before .args in
+    rw (take-all (g .len) (g .hold .now) (omega arith)) (c .parse2 .ensures)
+
+pub said-spec : {M : Type 1} → statement M
+said-spec =
+    tie.close (tie.spec slice-aggregate-parse (λ c κs. search needs) (λ c. search needs) (λ c κs. search needs)
+    returns-2)

@@ -1,0 +1,61 @@
+-- How a call's outcome is told, of any chip: the code's answer was told, and is the outcome that the chip's definition
+-- has. Assumes nothing.
+use Prim.Native.Nat.{ℕ, _/_, _%_, _<_}
+use mathlib.Core.Path.{_≡_, refl, sym}
+use native.Mathlib.Omega.{arith}
+use borrow.Author.Tests.{eq-eqb, ne-eqb}
+use Rattle.vocabulary.specs.Outcome.{Outcome}
+use Rattle.vocabulary.specs.Component.{colourWord}
+use Rattle.vocabulary.proofs.Choice.{picks-first, picks-second}
+use Rattle.expand.specs.declared.Expanded.{Expanded}
+use Rattle.expand.specs.Expand.{meaning, expansion}
+use Rattle.answers.specs.declared.Text.{Text}
+use Rattle.answers.specs.Answers.{okText, badText, valueText, movedText, syncText, colourText, tenText, told, Says}
+use Rattle.turns.specs.Turns.{Turn, bad, done, valued, moved, signalled, poured, Took, expandText}
+
+-- a colour's bytes come back out of the one number
+module _ (r g b : ℕ) (hr : r < 256) (hg : g < 256) where
+  red-of : colourWord r g b % 256 ≡ r
+  red-of = omega arith
+
+  green-of : colourWord r g b / 256 % 256 ≡ g
+  green-of = omega arith
+
+  blue-of : colourWord r g b / 65536 ≡ b
+  blue-of = omega arith
+
+pub took-bad : {C : Type 0} {text : Text} {left c : C} → left ≡ c → Says text badText → Took (Says text) left (bad c)
+took-bad e s = record { says = s; leaves = e }
+
+-- o is the code's answer with its lent tables, p what the chip's definition has
+module _ {C : Type 0} {text : Text} {left : C} {o p : Outcome C} (e : o ≡ p) (l : left ≡ o .left) where
+  pub took-done : Says text (told (o .refusal) okText) → Took (Says text) left (done p)
+  took-done s = rw (sym e) (record { says = s; leaves = l })
+
+  pub took-valued : Says text (told (o .refusal) (valueText (o .value))) → Took (Says text) left (valued p)
+  took-valued s = rw (sym e) (record { says = s; leaves = l })
+
+  pub took-moved : Says text (told (o .refusal) (movedText (o .count))) → Took (Says text) left (moved p)
+  took-moved s = rw (sym e) (record { says = s; leaves = l })
+
+  pub took-signalled : Says text (told (o .refusal) (syncText (o .value))) → Took (Says text) left (signalled p)
+  took-signalled s = rw (sym e) (record { says = s; leaves = l })
+
+  pub took-poured : (r g b : ℕ) → o .value ≡ colourWord r g b → r < 256 → g < 256
+      → Says text (told (o .refusal) (colourText r g b)) → Took (Says text) left (poured p)
+  took-poured r g b v hr hg s =
+      rw (sym e, v, red-of r g b hr hg, green-of r g b hr hg, blue-of r g b hr hg) (record { says = s; leaves = l })
+
+-- the expander's answer
+abbrev Tells : Text → Outcome Unit → Type 0
+Tells text o = Says text (told (o .refusal) (tenText (o .value)))
+
+pub expanded-as : {text : Text} {e k : Expanded} → e ≡ k → Tells text (meaning k) → Tells text (meaning e)
+expanded-as m s = rw m s
+
+module _ {text : Text} {o : Outcome Unit} (width v : ℕ) where
+  pub six-told : width ≡ 6 → o ≡ expansion 6 v → Tells text o → Says text (expandText width v)
+  six-told h m s = rw (picks-first {A = ℕ} 6 8 (eq-eqb width 6 h), sym m) s
+
+  pub eight-told : (width ≡ 6 → ⊥) → o ≡ expansion 8 v → Tells text o → Says text (expandText width v)
+  eight-told h m s = rw (picks-second {A = ℕ} 6 8 (ne-eqb width 6 h), sym m) s
