@@ -1,12 +1,12 @@
-use Rattle.log.proofs.Patterns.{said-first, said-next, says-write, says-read}
+use Rattle.log.proofs.Patterns.{said-first, said-next, says-pixel, says-blank, says-sync}
 use borrow.Author.Needs.{needs}
-use Rattle.log.proofs.parse.Statement.{statement}
-use Rattle.log.proofs.parse.Tie as tie
+use Rattle.log_chips.proofs.b_line.Statement.{statement}
+use Rattle.log_chips.proofs.b_line.Tie as tie
 
-ruleset forms = (said-first, said-next, says-write, says-read, needs)
+ruleset forms = (said-first, said-next, says-pixel, says-blank, says-sync, needs)
 
-pub parse-spec : {M : Type 1} → statement M
-parse-spec =
+pub b-line-spec : {M : Type 1} → statement M
+b-line-spec =
     tie.close
     (tie.spec
     (λ c. search needs)
@@ -18,6 +18,7 @@ parse-spec =
     (λ c. search needs)
     (λ c. search needs)
     (λ c. search forms)
+    (λ c. search needs)
     (λ c. search needs)
     (λ c. search needs)
     (λ c. search forms)

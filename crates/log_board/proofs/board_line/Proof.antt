@@ -1,7 +1,7 @@
 use Rattle.log.proofs.Patterns.{said-first, said-next, says-expand}
 use borrow.Author.Needs.{needs}
-use Rattle.log.proofs.board_line.Statement.{statement}
-use Rattle.log.proofs.board_line.Tie as tie
+use Rattle.log_board.proofs.board_line.Statement.{statement}
+use Rattle.log_board.proofs.board_line.Tie as tie
 
 ruleset forms = (said-first, said-next, says-expand, needs)
 

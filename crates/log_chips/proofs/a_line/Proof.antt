@@ -1,7 +1,7 @@
 use Rattle.log.proofs.Patterns.{said-first, said-next, says-shown}
 use borrow.Author.Needs.{needs}
-use Rattle.log.proofs.a_line.Statement.{statement}
-use Rattle.log.proofs.a_line.Tie as tie
+use Rattle.log_chips.proofs.a_line.Statement.{statement}
+use Rattle.log_chips.proofs.a_line.Tie as tie
 
 ruleset forms = (said-first, said-next, says-shown, needs)
 

@@ -1,7 +1,7 @@
 use Rattle.log.proofs.Patterns.{shows-it, shows-not}
 use borrow.Author.Needs.{needs}
-use Rattle.log.proofs.pixel.Statement.{statement}
-use Rattle.log.proofs.pixel.Tie as tie
+use Rattle.log_chips.proofs.pixel.Statement.{statement}
+use Rattle.log_chips.proofs.pixel.Tie as tie
 
 ruleset forms = (shows-it, shows-not, needs)
 

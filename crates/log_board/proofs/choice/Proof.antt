@@ -1,7 +1,7 @@
 use Rattle.log.proofs.Patterns.{said-first, said-next, said-none}
 use borrow.Author.Needs.{needs}
-use Rattle.log.proofs.choice.Statement.{statement}
-use Rattle.log.proofs.choice.Tie as tie
+use Rattle.log_board.proofs.choice.Statement.{statement}
+use Rattle.log_board.proofs.choice.Tie as tie
 
 ruleset forms = (said-first, said-next, said-none, needs)
 

@@ -1,7 +1,7 @@
 use Rattle.log.proofs.Patterns.{expands-six, expands-eight, expands-not}
 use borrow.Author.Needs.{needs}
-use Rattle.log.proofs.expansion.Statement.{statement}
-use Rattle.log.proofs.expansion.Tie as tie
+use Rattle.log_board.proofs.expansion.Statement.{statement}
+use Rattle.log_board.proofs.expansion.Tie as tie
 
 ruleset forms = (expands-six, expands-eight, expands-not, needs)
 
