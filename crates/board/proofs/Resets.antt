@@ -1,7 +1,7 @@
 -- The start: a reset of A or C leaves the same whatever its state was before, and B's is accepted. Assumes nothing.
 use Prim.Native.Nat.{ℕ}
 use mathlib.Core.Path.{_≡_, refl, sym, ap, _∙_}
-use mathlib.Core.List.{List}
+use mathlib.Core.List.{List, []}
 use native.Mathlib.Omega.{arith}
 use lib.ListN.{length}
 use Rattle.vocabulary.specs.Refusal.{refusalOf}
@@ -28,21 +28,26 @@ b-started a queue map c page l =
     ap (λ (o : Outcome B.Chip). o .left)
     (sym (reset-does (view (handed revised queue map)) l (omega arith, (omega arith, tt))))
 
--- each chip's reset, of any state of A and C
-module _ {ra : AA.Answer} (sa : AS.State) {rb : BA.Answer} {sb : BS.State} {rc : CA.Answer} (sc : CS.State)
-    {queue after : List ℕ} where
-  pub starts : ((cs os : List ℕ) → A.outcome ra cs os ≡ A.called A.resets (A.chip sa cs os)) → sb ≡ revised
-      → ((m : List ℕ) → Does (handed sb queue m) (outcome rb after m) (B.called B.resets))
-      → ((t : List ℕ) → C.outcome rc t ≡ C.called C.resets (C.chip sc t))
-      → (a : A.Chip) (map : List ℕ) (c : C.Chip) (page : List ℕ)
-      → whole (record { a = ra .state; b = rb .state; c = rc .state; chosen = ChipA }) (a .colours) (a .overlays) after
-      map (c .table) page ≡ started a queue map c page
-  unfolding calledBy refusalOf answeredAt
-  starts ea is eb ec a map c page =
-      let ha : A.chip (ra .state) (a .colours) (a .overlays) ≡ A.called A.resets a .left =
-      ap (λ (o : Outcome A.Chip). o .left) (ea (a .colours) (a .overlays)) in
-      let hb : view (handed (rb .state) after map) ≡ B.called B.resets (view (handed revised queue map)) .left =
-      ap (λ (o : Outcome B.Chip). o .left) (rw is at (eb map .chip)) in
-      let hc : C.chip (rc .state) (c .table) ≡ C.called C.resets c .left =
-      ap (λ (o : Outcome C.Chip). o .left) (ec (c .table)) in
-      rw (ha, hb, hc)
+-- A's and C's leave zeros, whatever stood there
+pub a-zeroed : {r : AA.Answer} (s : AS.State)
+    → ((cs os : List ℕ) → A.outcome r cs os ≡ A.called A.resets (A.chip s cs os)) → r .state ≡ A.zeroed
+unfolding calledBy refusalOf answeredAt
+a-zeroed s e = ap (λ (o : Outcome A.Chip). o .left .state) (e [] [])
+
+pub c-zeroed : {r : CA.Answer} (s : CS.State)
+    → ((t : List ℕ) → C.outcome r t ≡ C.called C.resets (C.chip s t)) → r .state ≡ C.zeroed
+unfolding calledBy refusalOf answeredAt
+c-zeroed s e = ap (λ (o : Outcome C.Chip). o .left .state) (e [])
+
+pub b-left : {r : BA.Answer} {s : BS.State} (queue after : List ℕ) → s ≡ revised
+    → ((m : List ℕ) → Does (handed s queue m) (outcome r after m) (B.called B.resets)) → (map : List ℕ)
+    → view (handed (r .state) after map) ≡ B.called B.resets (view (handed revised queue map)) .left
+b-left queue after is e map = ap (λ (o : Outcome B.Chip). o .left) (rw is at (e map .chip))
+
+pub starts : {sa : AS.State} (sb : BS.State) {sc : CS.State} (queue after : List ℕ) → sa ≡ A.zeroed
+    → ((m : List ℕ) → view (handed sb after m) ≡ B.called B.resets (view (handed revised queue m)) .left)
+    → sc ≡ C.zeroed → (a : A.Chip) (map : List ℕ) (c : C.Chip) (page : List ℕ)
+    → whole (record { a = sa; b = sb; c = sc; chosen = ChipA }) (a .colours) (a .overlays) after map (c .table) page
+    ≡ started a queue map c page
+unfolding calledBy refusalOf answeredAt
+starts sb queue after ea eb ec a map c page = rw (ea, eb map, ec)

@@ -44,7 +44,7 @@ fn told(board: Board, answer: Answer) -> Step
 }
 
 // Chip A's sheet on the page, or its refusal.
-fn list(board: Board, colours: &[u8], overlays: &[u8], page: &mut [u8]) -> Step
+fn list<'a>(board: Board, colours: &'a [u8], overlays: &'a [u8], page: &mut [u8]) -> Step
     ensures { λ r. ⌜ ((queue map table : List ℕ)
         → StepTook r (now (colours .entry)) (now (overlays .entry)) queue map table (now (page .exit))
         (sheetTurn chipA
@@ -54,7 +54,7 @@ fn list(board: Board, colours: &[u8], overlays: &[u8], page: &mut [u8]) -> Step
 }
 
 // The sheet of the chip that has one.
-pub fn sheet(board: Board, colours: &[u8], overlays: &[u8], page: &mut [u8]) -> Step
+pub fn sheet<'a>(board: Board, colours: &'a [u8], overlays: &'a [u8], page: &mut [u8]) -> Step
     ensures { λ r. ⌜ ((queue map table : List ℕ)
         → StepTook r (now (colours .entry)) (now (overlays .entry)) queue map table (now (page .exit))
         (sheetTurn (board .chosen)

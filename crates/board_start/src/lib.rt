@@ -10,17 +10,21 @@ use rgb640::State as CState;
 ghost use mathlib.Core.Path.{_≡_};
 ghost use Prim.Native.Nat.{ℕ};
 ghost use mathlib.Core.List.{List};
-ghost use Rattle.hd153108.specs.Hd153108.{Chip as AChip};
-ghost use Rattle.rgb640.specs.Rgb640.{Chip as CChip};
+ghost use Rattle.hd153108.specs.Hd153108.{Chip as AChip, zeroed as aZeroed};
+ghost use Rattle.ms622424.specs.Ms622424.{resets as bResets, called as bCalled};
+ghost use Rattle.ms622424_places.specs.Places.{handed, view};
+ghost use Rattle.rgb640.specs.Rgb640.{Chip as CChip, zeroed as cZeroed};
 ghost use Rattle.board.specs.Board.{whole, revised, started};
 
-// Chip A's state before the first reset, which reads nothing of it.
-fn a_given() -> AState {
+// Chip A after its first reset, which reads nothing of the state before.
+fn a_start() -> AState
+    ensures { λ r. ⌜ r ≡ aZeroed ⌝ }
+{
     let k = hd153108::Clock {
         timing: 0,
         position: 0,
     };
-    AState {
+    let given = AState {
         address: 0,
         pointer: 0,
         red: 0,
@@ -29,10 +33,13 @@ fn a_given() -> AState {
         blinkmask: 0,
         control: 0,
         clock: k,
-    }
+    };
+    let r = hd153108_reset::zk_a_reset(given);
+    let s = r.state;
+    s
 }
 
-// Chip B's: its revision is 3 and its board number 5.
+// Chip B's state before: its revision is 3 and its board number 5.
 fn b_given() -> BState
     ensures { λ r. ⌜ r ≡ revised ⌝ }
 {
@@ -59,21 +66,35 @@ fn b_given() -> BState
     }
 }
 
-// Chip C's, of which the reset reads nothing either.
-fn c_given() -> CState {
+fn b_start(queue: &mut [u64]) -> BState
+    ensures { λ r. ⌜ ((map : List ℕ) → view (handed r (now (queue .exit)) map)
+        ≡ bCalled bResets (view (handed revised (now (queue .entry)) map)) .left) ⌝ }
+{
+    let r = ms622424_reset::zk_b_reset(b_given(), queue);
+    let s = r.state;
+    s
+}
+
+// Chip C after its first reset, which reads nothing of the state before either.
+fn c_start() -> CState
+    ensures { λ r. ⌜ r ≡ cZeroed ⌝ }
+{
     let f = rgb640::Colour {
         red: 0,
         green: 0,
         blue: 0,
     };
-    CState {
+    let given = CState {
         index: 0,
         red: 0,
         green: 0,
         fetched: f,
         place: 0,
         update: 0,
-    }
+    };
+    let r = rgb640_reset::zk_c_reset(given);
+    let s = r.state;
+    s
 }
 
 // The board at the start.
@@ -82,16 +103,13 @@ pub fn start(queue: &mut [u64]) -> Board
         → whole r (a .colours) (a .overlays) (now (queue .exit)) map (c .table) page
         ≡ started a (now (queue .entry)) map c page) ⌝ }
 {
-    let a = hd153108_reset::zk_a_reset(a_given());
-    let b = ms622424_reset::zk_b_reset(b_given(), queue);
-    let c = rgb640_reset::zk_c_reset(c_given());
-    let a_after = a.state;
-    let b_after = b.state;
-    let c_after = c.state;
+    let a = a_start();
+    let b = b_start(queue);
+    let c = c_start();
     Board {
-        a: a_after,
-        b: b_after,
-        c: c_after,
+        a: a,
+        b: b,
+        c: c,
         chosen: Chip::ChipA,
     }
 }

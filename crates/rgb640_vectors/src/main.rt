@@ -19,12 +19,6 @@ use print::answer;
 use rgb640::Colour;
 use rgb640::State;
 
-// The chip's state, and how many numbers of the table are lent.
-struct Bench {
-    state: State,
-    size: usize,
-}
-
 fn fill(t: &mut [u16]) {
     for i in 0..t.len() {
         t[i] = (i % 3072 * 4 + 1) as u16;
@@ -47,59 +41,83 @@ fn given(line: &[u8]) -> State {
     }
 }
 
-// A line that asks nothing of the table.
-fn alone(s: State, line: &[u8]) -> State {
-    match script::command(line) {
-        b's' => return given(line),
-        b'z' => return answer(rgb640_reset::zk_c_reset(s)),
-        b'.' => print::end(),
-        b'i' => print::place(line, s),
-        b'f' => print::fetched(line, s),
-        b'l' => print::latches(line, s),
-        _ => print::label(line, 2),
+// A line that shows a part of the state.
+fn show(s: State, command: u8) {
+    match command {
+        b'i' => print::place(s.index, s.place),
+        b'f' => print::fetched(s),
+        b'l' => print::latches(s.red, s.green, s.update),
+        _ => {}
     }
-    s
+}
+
+// A line that asks nothing of the table.
+fn alone(s: State, line: &[u8], command: u8) -> State {
+    match command {
+        b's' => given(line),
+        b'z' => answer(rgb640_reset::zk_c_reset(s)),
+        b'.' => {
+            script::line_end();
+            s
+        }
+        _ => {
+            script::label(line, 2);
+            show(s, command);
+            s
+        }
+    }
 }
 
 fn access(s: State, line: &[u8], table: &mut [u16]) -> State {
+    let command = script::command(line);
     let port = script::byte(line, 2);
-    match script::command(line) {
+    match command {
         b'w' => answer(rgb640_write::zk_c_write(s, port, script::byte(line, 5), table)),
         b'r' => answer(rgb640_read::zk_c_read(s, port, table)),
-        _ => alone(s, line),
+        _ => alone(s, line, command),
     }
 }
 
-// An access of what is lent.
-fn lent(b: Bench, line: &[u8], table: &mut [u16]) -> State {
-    let s = b.state;
-    let size = b.size;
+// An access of what is lent: so many numbers of the table.
+fn lent(s: State, size: usize, line: &[u8], table: &mut [u16]) -> State {
     if size <= table.len() {
         return access(s, line, &mut table[..size]);
     }
     s
 }
 
-fn turn(b: Bench, line: &[u8], table: &mut [u16]) -> Bench {
-    let number = script::word(line, 2) as usize;
-    match script::command(line) {
-        b'n' => return Bench { size: number, ..b },
-        b't' => fill(table),
-        b'e' => print::entry(line, table, number),
-        _ => {
-            let next = lent(b, line, table);
-            return Bench { state: next, ..b };
-        }
+// How many numbers of the table are lent from a line on.
+fn lent_size(size: usize, line: &[u8]) -> usize {
+    if script::command(line) == b'n' {
+        return script::word(line, 2) as usize;
     }
-    b
+    size
 }
 
-fn run(text: &[u8], start: Bench, table: &mut [u16]) {
-    let mut b = start;
+fn turn(s: State, size: usize, line: &[u8], table: &mut [u16]) -> State {
+    match script::command(line) {
+        b'n' => s,
+        b't' => {
+            fill(table);
+            s
+        }
+        b'e' => {
+            print::entry(line, table, script::word(line, 2) as usize);
+            s
+        }
+        _ => lent(s, size, line, table),
+    }
+}
+
+fn run(text: &[u8], start: State, table: &mut [u16]) {
+    let mut s = start;
+    let mut size: usize = 3072;
     let mut at = 0;
     while at < text.len() {
         let to = script::end(text, at);
-        b = turn(b, &text[at..to], table);
+        let line = &text[at..to];
+        size = lent_size(size, line);
+        s = turn(s, size, line, table);
         at = to + 1;
     }
 }
@@ -108,9 +126,5 @@ fn main() {
     let mut text = [0u8; 4096];
     let n = io::read_full(STDIN_FILENO, &mut text);
     let mut table = [0u16; 3072];
-    let start = Bench {
-        state: given(b""),
-        size: 3072,
-    };
-    run(&text[..n], start, &mut table);
+    run(&text[..n], given(b""), &mut table);
 }

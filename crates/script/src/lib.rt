@@ -1,4 +1,5 @@
-// The lines of a program's list of calls, which it reads on standard input: what the three programs of vectors share.
+// The lines of a program's list of calls, which it reads on standard input, and what it prints of them: what the three
+// programs of vectors share.
 //
 // A line's first byte says what is done. Its numbers stand at fixed places, in lower-case hex digits, and behind them a
 // label. What a line holds and where is said by the program that reads it. Of a line that is too short the missing
@@ -61,6 +62,29 @@ pub fn long(line: &[u8], at: usize) -> u32 {
         return wider(word(line, at)) * 65536 + wider(word(line, at + 4));
     }
     0
+}
+
+// Prints a name and a decimal number behind it.
+pub fn number(name: &[u8], n: u64) {
+    io::write_all(STDOUT_FILENO, name);
+    io::print_decimal(STDOUT_FILENO, n);
+}
+
+// A name and so many hex digits.
+pub fn hex(name: &[u8], n: u64, width: usize) {
+    io::write_all(STDOUT_FILENO, name);
+    io::print_hex(STDOUT_FILENO, n, width);
+}
+
+// The end of a line.
+pub fn line_end() {
+    io::write_all(STDOUT_FILENO, b"\n");
+}
+
+// A label, which stands in a line from a place on.
+pub fn label(line: &[u8], at: usize) {
+    rest(line, at);
+    line_end();
 }
 
 // Prints a line from a place on.

@@ -1,4 +1,13 @@
+use Rattle.board_sheet.proofs.Sheets.{took-sheet}
+use borrow.Author.Needs.{needs}
 use Rattle.board_sheet.proofs.list.Statement.{statement}
+use Rattle.board_sheet.proofs.list.Tie as tie
 
 pub list-spec : {M : Type 1} → statement M
-list-spec 𝓤 H 𝓜 𝓖 𝓡 = ?
+list-spec =
+    tie.close
+    (tie.spec
+    (λ c κs. search needs)
+    (λ c κs. search needs)
+    (λ c. search needs)
+    (λ c. search took-sheet))

@@ -1,12 +1,7 @@
-use Rattle.ms622424_places.specs.Places.{colours, right}
 use Rattle.board.proofs.Resets.{starts}
 use borrow.Author.Needs.{needs}
 use Rattle.board_start.proofs.start.Statement.{statement}
 use Rattle.board_start.proofs.start.Tie as tie
-
-returns : tie.Need-returns
-unfolding colours right
-returns c = search starts
 
 pub start-spec : {M : Type 1} → statement M
 start-spec =
@@ -15,8 +10,5 @@ start-spec =
     (λ c κs. search needs)
     (λ c κs. search needs)
     (λ c κs. search needs)
-    (λ c κs. search needs)
-    (λ c κs. search needs)
-    (λ c κs. search needs)
     (λ c. search needs)
-    returns)
+    (λ c. search starts))
