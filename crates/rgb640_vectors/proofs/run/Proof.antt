@@ -6,10 +6,10 @@ use Rattle.rgb640_vectors.proofs.run.Statement.{statement}
 use Rattle.rgb640_vectors.proofs.run.Tie as tie
 
 abbrev Inv-loop : tie.InvT-loop
-Inv-loop text table₀ b₀ at₀ table b at = length table ≡ length table₀
+Inv-loop text table₀ s₀ size₀ at₀ table s size at = length table ≡ length table₀
 
 abbrev μ-loop : tie.MeasureT-loop
-μ-loop text table₀ b₀ at₀ table b at = length text - at
+μ-loop text table₀ s₀ size₀ at₀ table s size at = length text - at
 
 pub run-spec : {M : Type 1} → statement M
 run-spec =
@@ -22,6 +22,7 @@ run-spec =
     (λ c. search needs)
     (λ c. search needs)
     (λ c. search needs)
+    (λ c κs. search needs)
     (λ c κs. search needs)
     (λ c. search needs)
     (λ c. search needs)
