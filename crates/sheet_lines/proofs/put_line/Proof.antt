@@ -14,4 +14,5 @@ put-line-spec =
     (λ c κs. rw (c .before .before .before .written .ensures .1) (c .before .before .before .before .before .pre))
     (λ c. search needs)
     (λ c.
-    rw (sym (c .before .before .before .before .before .before .written .ensures .1)) (c .before .before .put .ensures)))
+    let text = c .before .before .before .before .before .before .written .ensures .1 in
+    rw (sym text) (c .before .before .put .ensures)))
