@@ -93,8 +93,8 @@ module _ (t kept : List ℕ) {n : ℕ} (read : readingOf n kept ≡ sheetOf t) (
     refused-short h =
         let short : length out < bytes = omega (arith, length-bytes (callsOf (map lineFor kept))) in
         rw (sym is)
-        (stops (callRefusals (good (map lineFor kept)) out) 0 out _ (before ++ (malformed ∷ [])) shortBuffer 6 _ refl refl
-        (refl, (refl, (refl, (refl, (refl, (refl, (refl, (refl, tt)))))))) (lt-ltb (length out) bytes short))
+        (stops (callRefusals (good (map lineFor kept)) out) 0 out _ (before ++ (malformed ∷ [])) shortBuffer 6 _ refl
+        refl (refl, (refl, (refl, (refl, (refl, (refl, (refl, (refl, tt)))))))) (lt-ltb (length out) bytes short))
 
     pub done : {left : List ℕ} → 2 * count ≤ length out
         → left ≡ pasted out 0 (callBytes (callsOf (map lineFor kept))) → outcome (Done count) left ≡ sheetToCalls t out

@@ -1,9 +1,9 @@
 -- Hex digits, by the range that they lie in. Assumes nothing.
 use Prim.Native.Nat.{ℕ, _+_, _-_, _≤_, _<_}
-use mathlib.Core.Path.{_≡_, sym, _∙_}
+use mathlib.Core.Path.{_≡_}
 use lib.Dec.{ltb, leb}
 use native.Mathlib.Omega.{arith}
-use borrow.Author.Tests.{lt-ltb, le-ltb, le-leb, lt-leb, ltb-true, ltb-false, leb-true, leb-false}
+use borrow.Author.Tests.{le-leb, lt-leb, ltb-true, ltb-false, leb-true}
 use Rattle.vocabulary.specs.Choice.{pick}
 use Rattle.vocabulary.proofs.Choice.{cases}
 use Rattle.hex.specs.Hex.{hexDigit, hexValue}

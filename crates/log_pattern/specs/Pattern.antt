@@ -1,5 +1,5 @@
--- A pattern of a port log's line: a byte string in which '#' stands for one hex digit, lower case, and any other byte for
--- itself.
+-- A pattern of a port log's line: a byte string in which '#' stands for one hex digit, lower case, and any other byte
+-- for itself.
 use Prim.Native.Nat.{ℕ}
 use mathlib.Core.Bool.{Bool, true, false, _&&_, _||_}
 use mathlib.Core.List.{List, [], _∷_}

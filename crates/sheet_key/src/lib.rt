@@ -1,7 +1,7 @@
 // One line of a sheet at its place: the key that it names, its value and where it ends; or it is bad.
 //
-// Document 01, "The sheet and its calls", decides; specs/Reader.antt says what a line's answer makes of the sheet. A line
-// is read by the key that it names, so each line is read once. Not modelled: as in sheet_reader.
+// Document 01, "The sheet and its calls", decides; specs/Reader.antt says what a line's answer makes of the sheet. A
+// line is read by the key that it names, so each line is read once. Not modelled: as in sheet_reader.
 ghost use mathlib.Core.Path.{_≡_};
 ghost use Prim.Native.Nat.{_≤_, _<_};
 ghost use lib.ListN.{length};

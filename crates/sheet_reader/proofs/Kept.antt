@@ -41,8 +41,8 @@ is-bad : (before kept : List ℕ) (n : ℕ) (r whole : Reading) → 1 ≤ n → 
 is-bad before kept zero r whole h e f = absurd (let z : ⊥ = omega arith in z)
 is-bad before kept (suc n) r whole h e f = sym (leads-bad (map lineFor before) (suc n)) ∙ (rw e at f)
 
--- What is read so far of a text: n - 1 lines, up to the place `at`, with the keys before `due`. From `due` on no line is
--- kept yet, and the sheet from there on, behind all that is kept, is the whole.
+-- What is read so far of a text: n - 1 lines, up to the place `at`, with the keys before `due`. From `due` on no line
+-- is kept yet, and the sheet from there on, behind all that is kept, is the whole.
 pub record SoFar (text kept : List ℕ) (due n at : ℕ) : Type 0 where
   pub keyed : due ≤ keys
   pub inside : at ≤ length text

@@ -21,7 +21,8 @@ module _ (v : ℕ) {k : ℕ} where
   pub text-register : {j h l : ℕ} {word : List ℕ} → k ≡ j → h ≡ hexDigit (v / 16 % 16) → l ≡ hexDigit (v % 16)
       → 2 ≡ width (keyAt j) → word ≡ front (keyAt j) ++ (h ∷ l ∷ 10 ∷ []) → word ≡ lineText (keyAt k) v
   unfolding lineText
-  text-register {j} e hi lo w is = is ∙ rw (e, append-assoc) (ap (λ (l : List ℕ). front (keyAt j) ++ l) (two-digits v hi lo w))
+  text-register {j} e hi lo w is =
+      is ∙ rw (e, append-assoc) (ap (λ (l : List ℕ). front (keyAt j) ++ l) (two-digits v hi lo w))
 
   module _ {r g b : ℕ} (up : r ≡ hexDigit (v / 16 / 16 % 16)) (mid : g ≡ hexDigit (v / 16 % 16))
       (low : b ≡ hexDigit (v % 16)) where

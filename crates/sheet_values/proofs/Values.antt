@@ -4,11 +4,11 @@ use mathlib.Core.Path.{_≡_, _∙_}
 use mathlib.Core.Bool.{false}
 use mathlib.Core.List.{List}
 use native.Mathlib.Omega.{arith}
-use lib.ListN.{length, getD}
+use lib.ListN.{getD}
 use Rattle.hd153108.specs.Hd153108.{Chip}
 use Rattle.sheet.specs.Sheet.{coloursIn, values, overFifteenIn}
 use Rattle.sheet_written.specs.Writer.{Writable}
-use Rattle.sheet_written.proofs.Values.{low-at, colour-at, value-overlay, value-colour}
+use Rattle.sheet_written.proofs.Values.{low-at, value-overlay, value-colour}
 
 -- no byte over 15: nothing wraps
 module _ (t : List ℕ) (low : overFifteenIn t ≡ false) (i : ℕ) where

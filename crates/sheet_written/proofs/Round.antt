@@ -1,17 +1,18 @@
 -- Reading what the writer wrote gives what was written. Assumes nothing.
-use Prim.Native.Nat.{ℕ, zero, suc, _+_, _≤_}
+use Prim.Native.Nat.{ℕ, suc, _+_, _≤_}
 use mathlib.Core.Path.{_≡_, refl}
-use mathlib.Core.Bool.{Bool, true, false}
+use mathlib.Core.Bool.{false}
 use mathlib.Core.List.{List, [], _∷_, _++_, map, append-nil}
 use native.Mathlib.Omega.{arith}
 use lib.ListN.{length, take, drop}
 use lib.Seq.{drop-append-seam, take-append-seam}
 use borrow.Author.Tests.{eq-eqb}
 use Rattle.vocabulary.specs.Choice.{pick}
-use Rattle.vocabulary.specs.Refusal.{_when_, lentLength, outOfRange, overFifteen, shortBuffer, refusalOf}
-use Rattle.vocabulary.specs.Outcome.{Outcome, accepting, answered, answeredAt}
+use Rattle.vocabulary.specs.Refusal.{refusalOf}
+use Rattle.vocabulary.specs.Outcome.{accepting}
 use Rattle.vocabulary.proofs.Range.{neither}
-use Rattle.vocabulary.proofs.Outcome.{accepted-does}
+use Rattle.vocabulary.proofs.Outcome.{accepted-does, accepted-none}
+use Rattle.vocabulary.proofs.Refusal.{none-exactly}
 use Rattle.hd153108.specs.Hd153108.{Chip}
 use Rattle.sheet.specs.declared.Line.the-variants.{Has}
 use Rattle.sheet.specs.Sheet.{keyAt, lineText, good, readFrom, sheetOf}
@@ -70,21 +71,6 @@ round a w =
     rw (length-values a (w .overlays) (w .colours)) at (back (values a) 0 1 (chip-lawful a w))
 
 -- the same of a call that was accepted: its count of bytes of the buffer, read
-four-clear : (p q r s : Bool)
-    → refusalOf ((lentLength when p) ∷ (outOfRange when q) ∷ (overFifteen when r) ∷ (shortBuffer when s) ∷ []) ≡ 0
-    → (p ≡ false) × (q ≡ false) × (r ≡ false)
-unfolding refusalOf
-four-clear true q r s e = absurd (let z : ⊥ = omega arith in z)
-four-clear false true r s e = absurd (let z : ⊥ = omega arith in z)
-four-clear false false true s e = absurd (let z : ⊥ = omega arith in z)
-four-clear false false false true e = absurd (let z : ⊥ = omega arith in z)
-four-clear false false false false e = (refl, refl, refl)
-
-accepted : {C : Type 0} (n : ℕ) (given : C) (done : Outcome C) → answered n given done .refusal ≡ 0 → n ≡ 0
-unfolding answeredAt
-accepted zero given done e = refl
-accepted (suc n) given done e = absurd (let z : ⊥ = omega arith in z)
-
 first-of : (out word : List ℕ) → take (length word) (pasted out 0 word) ≡ word
 unfolding pasted
 first-of out word = take-append-seam word (drop (0 + length word) out)
@@ -93,8 +79,8 @@ pub write-round : (a : Chip) (out : List ℕ) → write a out .refusal ≡ 0
     → sheetOf (take (write a out .count) (write a out .left)) ≡ good (chipLines a)
 unfolding write
 write-round a out e =
-    let n = accepted (refusalOf (writeRefusals a out)) out _ e in
-    let clear = four-clear _ _ _ _ n in
-    let low = neither (overFifteenIn (a .colours)) _ (clear .2) in
+    let n = accepted-none (refusalOf (writeRefusals a out)) 0 out _ e in
+    let (short-none, (range-none, (_, (_, (_, (_, (over-none, _))))))) = none-exactly (writeRefusals a out) n in
+    let low = neither (overFifteenIn (a .colours)) _ over-none in
     let is : write a out ≡ accepting 0 (length (textOf a)) (pasted out 0 (textOf a)) = accepted-does 0 out _ n in
-    rw (is, first-of out (textOf a)) (round a (writable a (clear .0) (clear .1) (low .0) (low .1)))
+    rw (is, first-of out (textOf a)) (round a (writable a short-none range-none (low .0) (low .1)))

@@ -2,13 +2,13 @@ use borrow.Author.Needs.{needs}
 use Rattle.sheet.proofs.told.Statement.{statement}
 use Rattle.sheet.proofs.told.Tie as tie
 
-returns : tie.Need-returns
-returns c = λ out. rw (c .before .before .a .given .1, c .packed .ensures)
-
-returns-2 : tie.Need-returns-2
-returns-2 c = λ out. rw (c .before .before .a2 .given .1, c .packed2 .ensures)
-
 pub told-spec : {M : Type 1} → statement M
 told-spec =
     tie.close
-    (tie.spec (λ c. search needs) (λ c κs. search needs) (λ c. search needs) (λ c κs. search needs) returns returns-2)
+    (tie.spec
+    (λ c. search needs)
+    (λ c. search needs)
+    (λ c. search needs)
+    (λ c. search needs)
+    (λ c out. rw (c .before .before .a .given .1, c .packed .ensures))
+    (λ c out. rw (c .before .before .a2 .given .1, c .packed2 .ensures)))
