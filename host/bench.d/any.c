@@ -32,6 +32,7 @@ static void see(struct seen *seen, const void *answer, size_t n) {
         type a = call;           \
         see(seen, &a, sizeof a); \
     } while (0)
+#define SEE_B(call) SEE(flat_b(call), struct flat_b)
 
 static zk_a_state state_a(void) {
     zk_a_state s = {0};
@@ -66,15 +67,15 @@ static void any_a(struct lent *l, struct seen *seen) {
 
 static zk_b_state state_b(void) {
     zk_b_state s = {0};
-    s.address = near(8192, 16);
-    s.counter = near(3, 8);
-    s.red = below(256);
-    s.green = below(256);
-    s.command = near(32, 8);
-    s.readmode = near(2, 8);
-    s.revision = near(8, 8);
-    s.board = near(16, 8);
-    s.waiting = below(3) ? near(65, 8) : 64 * below(2);
+    s.port.address = near(8192, 16);
+    s.port.counter = near(3, 8);
+    s.port.red = below(256);
+    s.port.green = below(256);
+    s.control.command = near(32, 8);
+    s.control.readmode = near(2, 8);
+    s.ident.revision = near(8, 8);
+    s.ident.board = near(16, 8);
+    s.fifo.waiting = below(3) ? near(65, 8) : 64 * below(2);
     return s;
 }
 
@@ -84,17 +85,17 @@ static void any_b(struct lent *l, struct seen *seen) {
     uint32_t slots = below(2) ? below(70) : near(65536, 17), word = near(1 << 24, 30);
     size_t places = length(ZK_B_PLACES), bytes = length(sizeof l->map);
     for (unsigned i = 0; i < ZK_B_PLACES; i++) {
-        l->queue[i] = i < s.waiting ? (uint64_t)below(8192) << 24 : 0;
-        l->queue[i] |= i < s.waiting ? below(1 << 24) : 0;
+        l->queue[i] = i < s.fifo.waiting ? (uint64_t)below(8192) << 24 : 0;
+        l->queue[i] |= i < s.fifo.waiting ? below(1 << 24) : 0;
     }
     if (below(20) == 0) l->queue[below(ZK_B_PLACES)] = (uint64_t)1 << below(64);
     switch (below(6)) {
-    case 0: SEE(CALL(b_write)(s, select, byte, l->queue, places, m, bytes), zk_b_answer); break;
-    case 1: SEE(CALL(b_read)(s, select, l->queue, places, m, bytes), zk_b_answer); break;
-    case 2: SEE(CALL(b_blank)(s, slots, l->queue, places, m, bytes), zk_b_answer); break;
+    case 0: SEE_B(CALL(b_write)(s, select, byte, l->queue, places, m, bytes)); break;
+    case 1: SEE_B(CALL(b_read)(s, select, l->queue, places, m, bytes)); break;
+    case 2: SEE_B(CALL(b_blank)(s, slots, l->queue, places, m, bytes)); break;
     case 3: SEE(CALL(b_pixel)(s, mode, word, l->queue, places, m, bytes), zk_b_shown); break;
-    case 4: SEE(CALL(b_sync)(s, signals, l->queue, places), zk_b_answer); break;
-    default: SEE(CALL(b_reset)(s, l->queue, places), zk_b_answer);
+    case 4: SEE_B(CALL(b_sync)(s, signals, l->queue, places)); break;
+    default: SEE_B(CALL(b_reset)(s, l->queue, places));
     }
     see(seen, l->queue, sizeof l->queue);
 }

@@ -16,10 +16,10 @@ static int queue_in_range(const uint64_t *queue, unsigned waiting) {
 static unsigned standing(zk_b_state s, const uint64_t *queue, size_t places, size_t bytes) {
     if (!CHECKED) return 0;
     if (places != ZK_B_PLACES || bytes != ZK_B_MAP) return ZK_LENT_LENGTH;
-    if (s.address >= ZK_B_ENTRIES || s.counter > 2 || s.command > 31 || s.readmode > 1 || s.revision > 7 || s.board > 15
-        || s.waiting > ZK_B_PLACES)
+    if (s.port.address >= ZK_B_ENTRIES || s.port.counter > 2 || s.control.command > 31 || s.control.readmode > 1
+        || s.ident.revision > 7 || s.ident.board > 15 || s.fifo.waiting > ZK_B_PLACES)
         return ZK_OUT_OF_RANGE;
-    return queue_in_range(queue, s.waiting) ? 0 : ZK_OUT_OF_RANGE;
+    return queue_in_range(queue, s.fifo.waiting) ? 0 : ZK_OUT_OF_RANGE;
 }
 
 static zk_b_answer answer(unsigned refusal, unsigned value, unsigned count, zk_b_state s) {
@@ -29,7 +29,7 @@ static zk_b_answer answer(unsigned refusal, unsigned value, unsigned count, zk_b
 
 /* the smaller of slots and waiting entries go into the map, the oldest first */
 static unsigned transfer(zk_b_state *s, uint32_t slots, uint64_t *queue, uint8_t *map) {
-    unsigned waiting = s->waiting, moved = slots < waiting ? slots : waiting, i;
+    unsigned waiting = s->fifo.waiting, moved = slots < waiting ? slots : waiting, i;
     for (i = 0; i < moved; i++) {
         uint8_t *entry = map + 3 * (queue[i] >> 24);
         entry[0] = (uint8_t)queue[i];
@@ -38,28 +38,28 @@ static unsigned transfer(zk_b_state *s, uint32_t slots, uint64_t *queue, uint8_t
     }
     memmove(queue, queue + moved, (waiting - moved) * sizeof *queue);
     memset(queue + waiting - moved, 0, moved * sizeof *queue);
-    s->waiting = (uint8_t)(waiting - moved);
+    s->fifo.waiting = (uint8_t)(waiting - moved);
     return moved;
 }
 
 static zk_b_state stepped(zk_b_state s) {
-    if (s.counter < 2) {
-        s.counter++;
+    if (s.port.counter < 2) {
+        s.port.counter++;
     } else {
-        s.counter = 0;
-        s.address = (uint16_t)((s.address + 1) & (ZK_B_ENTRIES - 1));
+        s.port.counter = 0;
+        s.port.address = (uint16_t)((s.port.address + 1) & (ZK_B_ENTRIES - 1));
     }
     return s;
 }
 
 static zk_b_answer palette_write(zk_b_state s, uint8_t byte, uint64_t *queue, uint8_t *map) {
-    unsigned moved = s.waiting == ZK_B_PLACES ? transfer(&s, 4, queue, map) : 0;
-    if (s.counter == 0) {
-        s.red = byte;
-    } else if (s.counter == 1) {
-        s.green = byte;
+    unsigned moved = s.fifo.waiting == ZK_B_PLACES ? transfer(&s, 4, queue, map) : 0;
+    if (s.port.counter == 0) {
+        s.port.red = byte;
+    } else if (s.port.counter == 1) {
+        s.port.green = byte;
     } else {
-        queue[s.waiting++] = zk_b_entry(s.address, s.red, s.green, byte);
+        queue[s.fifo.waiting++] = zk_b_entry(s.port.address, s.port.red, s.port.green, byte);
     }
     return answer(0, 0, moved, stepped(s));
 }
@@ -70,26 +70,26 @@ zk_b_answer NAME(b_write)(zk_b_state s, uint8_t select, uint8_t byte, uint64_t *
     if (refusal != 0) return answer(refusal, 0, 0, s);
     switch (select) {
     case 0:
-        s.address = (uint16_t)((s.address & 0xff00) | byte);
-        s.counter = 0;
+        s.port.address = (uint16_t)((s.port.address & 0xff00) | byte);
+        s.port.counter = 0;
         break;
     case 1:
-        s.address = (uint16_t)((s.address & 0x00ff) | (byte & 31) << 8);
-        s.counter = 0;
+        s.port.address = (uint16_t)((s.port.address & 0x00ff) | (byte & 31) << 8);
+        s.port.counter = 0;
         break;
     case 2:
-        if (s.readmode) return answer(ZK_READ_MODE, 0, 0, s);
+        if (s.control.readmode) return answer(ZK_READ_MODE, 0, 0, s);
         return palette_write(s, byte, queue, map);
-    case 3: s.command = byte & 31; break;
-    case 7: s.readmode = 1; break;
+    case 3: s.control.command = byte & 31; break;
+    case 7: s.control.readmode = 1; break;
     default: return answer(ZK_NO_ACCESS, 0, 0, s);
     }
     return answer(0, 0, 0, s);
 }
 
 static unsigned status(zk_b_state s) {
-    unsigned mark = (s.command & 16) != 0 ? 56 : 32;
-    return s.counter | (s.waiting != 0) << 2 | (s.waiting < mark) << 3 | (s.waiting < ZK_B_PLACES) << 4;
+    unsigned waiting = s.fifo.waiting, mark = (s.control.command & 16) != 0 ? 56 : 32;
+    return s.port.counter | (waiting != 0) << 2 | (waiting < mark) << 3 | (waiting < ZK_B_PLACES) << 4;
 }
 
 zk_b_answer NAME(b_read)(zk_b_state s, uint8_t select, const uint64_t *queue, size_t places, const uint8_t *map,
@@ -97,21 +97,21 @@ zk_b_answer NAME(b_read)(zk_b_state s, uint8_t select, const uint64_t *queue, si
     unsigned refusal = standing(s, queue, places, bytes);
     if (refusal != 0) return answer(refusal, 0, 0, s);
     switch (select) {
-    case 0: return answer(0, s.address & 0xff, 0, s);
-    case 1: return answer(0, s.address >> 8, 0, s);
+    case 0: return answer(0, s.port.address & 0xff, 0, s);
+    case 1: return answer(0, s.port.address >> 8, 0, s);
     case 2:
-        if (!s.readmode) return answer(ZK_READ_MODE, 0, 0, s);
-        if (s.waiting != 0) return answer(ZK_STILL_WAITING, 0, 0, s);
-        return answer(0, map[3 * s.address + s.counter], 0, stepped(s));
-    case 3: return answer(0, s.command, 0, s);
+        if (!s.control.readmode) return answer(ZK_READ_MODE, 0, 0, s);
+        if (s.fifo.waiting != 0) return answer(ZK_STILL_WAITING, 0, 0, s);
+        return answer(0, map[3 * s.port.address + s.port.counter], 0, stepped(s));
+    case 3: return answer(0, s.control.command, 0, s);
     case 4: return answer(0, status(s), 0, s);
     case 5:
-        if (s.counter == 2) return answer(ZK_NO_ACCESS, 0, 0, s);
-        if (s.counter == 1) return answer(0, s.green, 0, s);
-        s.counter = 1;
-        return answer(0, s.red, 0, s);
-    case 6: return answer(0, s.board << 4 | s.revision, 0, s);
-    case 7: s.readmode = 0; return answer(0, 0, 0, s);
+        if (s.port.counter == 2) return answer(ZK_NO_ACCESS, 0, 0, s);
+        if (s.port.counter == 1) return answer(0, s.port.green, 0, s);
+        s.port.counter = 1;
+        return answer(0, s.port.red, 0, s);
+    case 6: return answer(0, s.ident.board << 4 | s.ident.revision, 0, s);
+    case 7: s.control.readmode = 0; return answer(0, 0, 0, s);
     default: return answer(ZK_NO_ACCESS, 0, 0, s);
     }
 }
@@ -148,13 +148,13 @@ zk_b_answer NAME(b_sync)(zk_b_state s, uint8_t signals, const uint64_t *queue, s
     unsigned refusal = standing(s, queue, places, ZK_B_MAP);
     if (CHECKED && refusal == 0 && signals > 15) refusal = ZK_OUT_OF_RANGE;
     if (refusal != 0) return answer(refusal, 0, 0, s);
-    return answer(0, (signals & s.command & 3) | ((signals | s.command) & 12), 0, s);
+    return answer(0, (signals & s.control.command & 3) | ((signals | s.control.command) & 12), 0, s);
 }
 
 zk_b_answer NAME(b_reset)(zk_b_state s, uint64_t *queue, size_t places) {
-    zk_b_state fresh = {0, 0, 0, 0, 3, 0, s.revision, s.board, 0};
+    zk_b_state fresh = {{0, 0, 0, 0}, {3, 0}, s.ident, {0}};
     if (CHECKED && places != ZK_B_PLACES) return answer(ZK_LENT_LENGTH, 0, 0, s);
-    if (CHECKED && (s.revision > 7 || s.board > 15)) return answer(ZK_OUT_OF_RANGE, 0, 0, s);
+    if (CHECKED && (s.ident.revision > 7 || s.ident.board > 15)) return answer(ZK_OUT_OF_RANGE, 0, 0, s);
     memset(queue, 0, ZK_B_PLACES * sizeof *queue);
     return answer(0, 0, 0, fresh);
 }

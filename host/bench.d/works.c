@@ -14,7 +14,16 @@ static void see(struct seen *seen, const void *answer, size_t n, unsigned refusa
     if (seen->all)
         for (size_t i = 0; i < n; i++) seen->number = (seen->number ^ bytes[i]) * 0x100000001b3u;
 }
+static void see_b(struct seen *seen, const zk_b_answer *a) {
+    if (seen->all) {
+        struct flat_b flat = flat_b(*a);
+        see(seen, &flat, sizeof flat, a->refusal);
+    } else {
+        see(seen, a, sizeof *a, a->refusal);
+    }
+}
 #define SEE(a) see(seen, &(a), sizeof(a), (a).refusal)
+#define SEE_B(a) see_b(seen, &(a))
 #define TABLES lent->colours, sizeof lent->colours, lent->overlays, sizeof lent->overlays
 #define QUEUE lent->queue, ZK_B_PLACES
 #define MAP lent->map, sizeof lent->map
@@ -78,7 +87,7 @@ static void a_pixel_overlay(struct lent *lent, struct seen *seen) { pixel_a(lent
 
 /* ---- chip B */
 static zk_b_state with_waiting(struct lent *lent, unsigned waiting) {
-    zk_b_state s = {64, 0, 1, 2, 3, 0, 3, 5, (uint8_t)waiting};
+    zk_b_state s = {{64, 0, 1, 2}, {3, 0}, {3, 5}, {(uint8_t)waiting}};
     memcpy(lent->queue, lent->entries, waiting * sizeof *lent->queue);
     memset(lent->queue + waiting, 0, (ZK_B_PLACES - waiting) * sizeof *lent->queue);
     return s;
@@ -88,7 +97,7 @@ static void write_b(struct lent *lent, struct seen *seen, unsigned waiting) {
     zk_b_answer a = {0, 0, 0, with_waiting(lent, waiting)};
     for (unsigned i = 0; i < 192; i++) {
         a = CALL(b_write)(a.state, 2, (uint8_t)i, QUEUE, MAP);
-        SEE(a);
+        SEE_B(a);
     }
 }
 static void b_write_filling(struct lent *lent, struct seen *seen) { write_b(lent, seen, 0); }
@@ -98,7 +107,7 @@ static void b_write_address(struct lent *lent, struct seen *seen) {
     zk_b_answer a = {0, 0, 0, with_waiting(lent, 0)};
     for (unsigned i = 0; i < 192; i++) {
         a = CALL(b_write)(a.state, i & 1, (uint8_t)i, QUEUE, MAP);
-        SEE(a);
+        SEE_B(a);
     }
 }
 
@@ -106,7 +115,7 @@ static void blank_b(struct lent *lent, struct seen *seen, unsigned waiting, uint
     zk_b_answer a = {0, 0, 0, with_waiting(lent, waiting)};
     for (unsigned i = 0; i < calls; i++) {
         a = CALL(b_blank)(a.state, slots, QUEUE, MAP);
-        SEE(a);
+        SEE_B(a);
     }
 }
 static void b_blank_all(struct lent *lent, struct seen *seen) { blank_b(lent, seen, 64, 64, 1); }
@@ -115,10 +124,10 @@ static void b_blank_none(struct lent *lent, struct seen *seen) { blank_b(lent, s
 
 static void b_read_map(struct lent *lent, struct seen *seen) {
     zk_b_answer a = {0, 0, 0, with_waiting(lent, 0)};
-    a.state.readmode = 1;
+    a.state.control.readmode = 1;
     for (unsigned i = 0; i < 768; i++) {
         a = CALL(b_read)(a.state, 2, QUEUE, MAP);
-        SEE(a);
+        SEE_B(a);
     }
 }
 
@@ -126,7 +135,7 @@ static void b_read_status(struct lent *lent, struct seen *seen) {
     zk_b_answer a = {0, 0, 0, with_waiting(lent, 33)};
     for (unsigned i = 0; i < 192; i++) {
         a = CALL(b_read)(a.state, 4, QUEUE, MAP);
-        SEE(a);
+        SEE_B(a);
     }
 }
 
@@ -147,7 +156,7 @@ static void b_sync(struct lent *lent, struct seen *seen) {
     zk_b_state s = with_waiting(lent, 0);
     for (uint8_t i = 0; i < 16; i++) {
         zk_b_answer a = CALL(b_sync)(s, i, QUEUE);
-        SEE(a);
+        SEE_B(a);
     }
 }
 

@@ -22,6 +22,17 @@ struct seen {
     int all;
 };
 
+/* The numbers of a chip B answer, without the bytes between the parts of its state, which mean nothing. */
+struct flat_b {
+    uint16_t numbers[12];
+};
+static inline struct flat_b flat_b(zk_b_answer a) {
+    zk_b_state s = a.state;
+    struct flat_b flat = {{a.refusal, a.value, a.count, s.port.address, s.port.counter, s.port.red, s.port.green,
+                           s.control.command, s.control.readmode, s.ident.revision, s.ident.board, s.fifo.waiting}};
+    return flat;
+}
+
 struct work {
     const char *name;
     void (*run)(struct lent *, struct seen *);

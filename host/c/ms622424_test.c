@@ -21,13 +21,13 @@ static void lend(size_t p, size_t b) {
 
 /* ---- the model */
 
-static int full(zk_b_state s) { return s.waiting == 64; }
+static int full(zk_b_state s) { return s.fifo.waiting == 64; }
 
 static int state_is_bad(zk_b_state s) {
-    if (s.address > 8191 || s.counter > 2 || s.command > 0x1f || s.readmode > 1) return 1;
-    if (s.revision > 7 || s.board > 15 || s.waiting > 64) return 1;
+    if (s.port.address > 8191 || s.port.counter > 2 || s.control.command > 0x1f || s.control.readmode > 1) return 1;
+    if (s.ident.revision > 7 || s.ident.board > 15 || s.fifo.waiting > 64) return 1;
     for (int i = 0; i < 64; i++)
-        if (i < s.waiting ? (want_queue[i] >> 24) > 8191 : want_queue[i] != 0) return 1;
+        if (i < s.fifo.waiting ? (want_queue[i] >> 24) > 8191 : want_queue[i] != 0) return 1;
     return 0;
 }
 
@@ -54,59 +54,59 @@ static void move_oldest(zk_b_state *s) {
     at[2] = e >> 16 & 0xff;
     for (int i = 0; i < 63; i++) want_queue[i] = want_queue[i + 1];
     want_queue[63] = 0;
-    s->waiting--;
+    s->fifo.waiting--;
 }
 
 static void next_colour(zk_b_state *s) {
-    if (++s->counter < 3) return;
-    s->counter = 0;
-    s->address = s->address == 8191 ? 0 : s->address + 1;
+    if (++s->port.counter < 3) return;
+    s->port.counter = 0;
+    s->port.address = s->port.address == 8191 ? 0 : s->port.address + 1;
 }
 
 static zk_b_answer model_write(zk_b_state s, int select, int byte) {
     zk_b_state given = s;
     int moved = 0, refusal = standing(s, 1);
     if (!refusal && (select > 7 || (select >= 4 && select <= 6))) refusal = 3;
-    if (!refusal && select == 2 && s.readmode) refusal = 5;
+    if (!refusal && select == 2 && s.control.readmode) refusal = 5;
     if (refusal) return answer(refusal, 0, 0, given);
-    if (select == 0) s.address = (s.address & 0x1f00) | byte, s.counter = 0;
-    if (select == 1) s.address = (byte & 0x1f) << 8 | (s.address & 0xff), s.counter = 0;
+    if (select == 0) s.port.address = (s.port.address & 0x1f00) | byte, s.port.counter = 0;
+    if (select == 1) s.port.address = (byte & 0x1f) << 8 | (s.port.address & 0xff), s.port.counter = 0;
     if (select == 2) {
         if (full(s))
             for (; moved < 4; moved++) move_oldest(&s);
-        if (s.counter == 0) s.red = (uint8_t)byte;
-        if (s.counter == 1) s.green = (uint8_t)byte;
-        if (s.counter == 2)
-            want_queue[s.waiting++] =
-                s.red + 0x100u * s.green + 0x10000u * (unsigned)byte + 0x1000000ull * s.address;
+        if (s.port.counter == 0) s.port.red = (uint8_t)byte;
+        if (s.port.counter == 1) s.port.green = (uint8_t)byte;
+        if (s.port.counter == 2)
+            want_queue[s.fifo.waiting++] =
+                s.port.red + 0x100u * s.port.green + 0x10000u * (unsigned)byte + 0x1000000ull * s.port.address;
         next_colour(&s);
     }
-    if (select == 3) s.command = byte & 0x1f;
-    if (select == 7) s.readmode = 1;
+    if (select == 3) s.control.command = byte & 0x1f;
+    if (select == 7) s.control.readmode = 1;
     return answer(0, 0, moved, s);
 }
 
 static int model_status(zk_b_state s) {
-    int almost = s.command & 0x10 ? 56 : 32;
-    return s.counter | (s.waiting != 0) << 2 | (s.waiting < almost) << 3 | !full(s) << 4;
+    int almost = s.control.command & 0x10 ? 56 : 32;
+    return s.port.counter | (s.fifo.waiting != 0) << 2 | (s.fifo.waiting < almost) << 3 | !full(s) << 4;
 }
 
 static zk_b_answer model_read(zk_b_state s, int select) {
     zk_b_state given = s;
     int value = 0, refusal = standing(s, 1);
-    if (!refusal && (select > 7 || (select == 5 && s.counter == 2))) refusal = 3;
-    if (!refusal && select == 2 && !s.readmode) refusal = 5;
-    if (!refusal && select == 2 && s.waiting) refusal = 6;
+    if (!refusal && (select > 7 || (select == 5 && s.port.counter == 2))) refusal = 3;
+    if (!refusal && select == 2 && !s.control.readmode) refusal = 5;
+    if (!refusal && select == 2 && s.fifo.waiting) refusal = 6;
     if (refusal) return answer(refusal, 0, 0, given);
-    if (select == 0) value = s.address & 0xff;
-    if (select == 1) value = s.address >> 8;
-    if (select == 2) value = want_map[3 * s.address + s.counter], next_colour(&s);
-    if (select == 3) value = s.command;
+    if (select == 0) value = s.port.address & 0xff;
+    if (select == 1) value = s.port.address >> 8;
+    if (select == 2) value = want_map[3 * s.port.address + s.port.counter], next_colour(&s);
+    if (select == 3) value = s.control.command;
     if (select == 4) value = model_status(s);
-    if (select == 5 && s.counter == 1) value = s.green;
-    if (select == 5 && s.counter == 0) value = s.red, s.counter = 1;
-    if (select == 6) value = s.board << 4 | s.revision;
-    if (select == 7) s.readmode = 0;
+    if (select == 5 && s.port.counter == 1) value = s.port.green;
+    if (select == 5 && s.port.counter == 0) value = s.port.red, s.port.counter = 1;
+    if (select == 6) value = s.ident.board << 4 | s.ident.revision;
+    if (select == 7) s.control.readmode = 0;
     return answer(0, value, 0, s);
 }
 
@@ -114,24 +114,24 @@ static zk_b_answer model_blank(zk_b_state s, uint32_t slots) {
     int moved = 0, refusal = standing(s, 1);
     if (!refusal && slots > 65535) refusal = 9;
     if (refusal) return answer(refusal, 0, 0, s);
-    for (; slots > 0 && s.waiting > 0; slots--, moved++) move_oldest(&s);
+    for (; slots > 0 && s.fifo.waiting > 0; slots--, moved++) move_oldest(&s);
     return answer(0, 0, moved, s);
 }
 
 static zk_b_answer model_sync(zk_b_state s, int signals) {
     int refusal = standing(s, 0), out = 0;
     if (!refusal && signals > 15) refusal = 9;
-    if (signals & 1 && s.command & 1) out |= 1;
-    if (signals & 2 && s.command & 2) out |= 2;
-    if (signals & 4 || s.command & 4) out |= 4;
-    if (signals & 8 || s.command & 8) out |= 8;
+    if (signals & 1 && s.control.command & 1) out |= 1;
+    if (signals & 2 && s.control.command & 2) out |= 2;
+    if (signals & 4 || s.control.command & 4) out |= 4;
+    if (signals & 8 || s.control.command & 8) out |= 8;
     return answer(refusal, out, 0, s);
 }
 
 static zk_b_answer model_reset(zk_b_state s) {
-    zk_b_state fresh = {0, 0, 0, 0, 0x03, 0, s.revision, s.board, 0};
+    zk_b_state fresh = {{0, 0, 0, 0}, {0x03, 0}, s.ident, {0}};
     if (places != 64) return answer(1, 0, 0, s);
-    if (s.revision > 7 || s.board > 15) return answer(9, 0, 0, s);
+    if (s.ident.revision > 7 || s.ident.board > 15) return answer(9, 0, 0, s);
     memset(want_queue, 0, 64 * sizeof *want_queue);
     return answer(0, 0, 0, fresh);
 }
@@ -153,9 +153,10 @@ static zk_b_shown model_pixel(zk_b_state s, int mode, uint32_t word) {
 /* ---- comparing */
 
 static int same_state(zk_b_state a, zk_b_state b) {
-    return a.address == b.address && a.counter == b.counter && a.red == b.red && a.green == b.green
-        && a.command == b.command && a.readmode == b.readmode && a.revision == b.revision && a.board == b.board
-        && a.waiting == b.waiting;
+    return a.port.address == b.port.address && a.port.counter == b.port.counter && a.port.red == b.port.red
+        && a.port.green == b.port.green && a.control.command == b.control.command
+        && a.control.readmode == b.control.readmode && a.ident.revision == b.ident.revision
+        && a.ident.board == b.ident.board && a.fifo.waiting == b.fifo.waiting;
 }
 
 static zk_b_state compare(const char *call, int x, long y, zk_b_answer got, zk_b_answer want) {
@@ -176,19 +177,19 @@ static zk_b_state try_write(zk_b_state s, int select, int byte) {
 }
 static zk_b_state try_read(zk_b_state s, int select) {
     zk_b_answer want = model_read(s, select);
-    return compare("read", select, s.counter, zk_b_read(s, (uint8_t)select, queue, places, map, bytes), want);
+    return compare("read", select, s.port.counter, zk_b_read(s, (uint8_t)select, queue, places, map, bytes), want);
 }
 static zk_b_state try_blank(zk_b_state s, uint32_t slots) {
     zk_b_answer want = model_blank(s, slots);
-    return compare("blank", s.waiting, slots, zk_b_blank(s, slots, queue, places, map, bytes), want);
+    return compare("blank", s.fifo.waiting, slots, zk_b_blank(s, slots, queue, places, map, bytes), want);
 }
 static zk_b_state try_sync(zk_b_state s, int signals) {
     zk_b_answer want = model_sync(s, signals);
-    return compare("sync", s.command, signals, zk_b_sync(s, (uint8_t)signals, queue, places), want);
+    return compare("sync", s.control.command, signals, zk_b_sync(s, (uint8_t)signals, queue, places), want);
 }
 static zk_b_state try_reset(zk_b_state s) {
     zk_b_answer want = model_reset(s);
-    return compare("reset", s.revision, s.board, zk_b_reset(s, queue, places), want);
+    return compare("reset", s.ident.revision, s.ident.board, zk_b_reset(s, queue, places), want);
 }
 static void try_pixel(zk_b_state s, int mode, uint32_t word) {
     zk_b_shown want = model_pixel(s, mode, word), got;
@@ -209,15 +210,15 @@ static void put_place(int i, uint64_t e) {
 /* a random state in its ranges, with so many waiting */
 static zk_b_state good_state(int waiting) {
     zk_b_state s;
-    s.address = (uint16_t)(check_below(4) ? check_below(8192) : 8191);
-    s.counter = (uint8_t)check_below(3);
-    s.red = (uint8_t)check_random();
-    s.green = (uint8_t)check_random();
-    s.command = (uint8_t)check_below(32);
-    s.readmode = (uint8_t)check_below(2);
-    s.revision = (uint8_t)check_below(8);
-    s.board = (uint8_t)check_below(16);
-    s.waiting = (uint8_t)waiting;
+    s.port.address = (uint16_t)(check_below(4) ? check_below(8192) : 8191);
+    s.port.counter = (uint8_t)check_below(3);
+    s.port.red = (uint8_t)check_random();
+    s.port.green = (uint8_t)check_random();
+    s.control.command = (uint8_t)check_below(32);
+    s.control.readmode = (uint8_t)check_below(2);
+    s.ident.revision = (uint8_t)check_below(8);
+    s.ident.board = (uint8_t)check_below(16);
+    s.fifo.waiting = (uint8_t)waiting;
     for (int i = 0; i < 64; i++) put_place(i, i < waiting ? check_random() & 0x1fffffffff : 0);
     return s;
 }
@@ -229,21 +230,21 @@ static int some_waiting(void) {
 
 /* one thing put out of its range, of each kind in turn */
 static zk_b_state spoilt(zk_b_state s, int kind) {
-    int w = s.waiting;
+    int w = s.fifo.waiting;
     switch (kind) {
-    case 0: s.address = (uint16_t)(8192 + check_below(65536 - 8192)); break;
-    case 1: s.counter = (uint8_t)(3 + check_below(253)); break;
-    case 2: s.command = (uint8_t)(32 + check_below(224)); break;
-    case 3: s.readmode = (uint8_t)(2 + check_below(254)); break;
-    case 4: s.revision = (uint8_t)(8 + check_below(248)); break;
-    case 5: s.board = (uint8_t)(16 + check_below(240)); break;
-    case 6: s.waiting = (uint8_t)(65 + check_below(191)); break;
-    case 7: s.address = 8192; break;
+    case 0: s.port.address = (uint16_t)(8192 + check_below(65536 - 8192)); break;
+    case 1: s.port.counter = (uint8_t)(3 + check_below(253)); break;
+    case 2: s.control.command = (uint8_t)(32 + check_below(224)); break;
+    case 3: s.control.readmode = (uint8_t)(2 + check_below(254)); break;
+    case 4: s.ident.revision = (uint8_t)(8 + check_below(248)); break;
+    case 5: s.ident.board = (uint8_t)(16 + check_below(240)); break;
+    case 6: s.fifo.waiting = (uint8_t)(65 + check_below(191)); break;
+    case 7: s.port.address = 8192; break;
     case 8: if (w > 0) put_place((int)check_below((uint32_t)w), (uint64_t)8192 << 24 | check_below(1 << 24)); break;
     case 9: if (w > 0) put_place(w - 1, check_random() | (uint64_t)1 << (37 + check_below(27))); break;
     case 10: if (w < 64) put_place(w, 1); break;
     case 11: if (w < 64) put_place(63, check_random() | 1); break;
-    default: s.waiting = 65; break;
+    default: s.fifo.waiting = 65; break;
     }
     return s;
 }
@@ -263,6 +264,15 @@ static void try_all(zk_b_state s) {
 
 /* ---- tests */
 
+/* the state in parts: where each stands, with a byte between port and control and one behind fifo that mean nothing */
+static void the_layout(void) {
+    CHECK(offsetof(zk_b_state, control) == 6 && offsetof(zk_b_state, ident) == 8 && offsetof(zk_b_state, fifo) == 10,
+          "the parts at %zu, %zu, %zu", offsetof(zk_b_state, control), offsetof(zk_b_state, ident),
+          offsetof(zk_b_state, fifo));
+    CHECK(sizeof(zk_b_state) == 12 && sizeof(zk_b_answer) == 16 && offsetof(zk_b_answer, state) == 4,
+          "a state of %zu bytes, an answer of %zu", sizeof(zk_b_state), sizeof(zk_b_answer));
+}
+
 static void every_select_and_counter(void) {
     static const int waiting[] = {0, 1, 31, 32, 55, 56, 63, 64};
     for (int select = 0; select < 256; select++)
@@ -271,8 +281,8 @@ static void every_select_and_counter(void) {
                 for (int w = 0; w < 8; w++) {
                     if (select > 9 && select < 255 && w % 4) continue;
                     zk_b_state s = good_state(waiting[w]);
-                    s.counter = (uint8_t)counter;
-                    s.readmode = (uint8_t)mode;
+                    s.port.counter = (uint8_t)counter;
+                    s.control.readmode = (uint8_t)mode;
                     try_read(s, select);
                     try_write(s, select, (int)(check_random() & 0xff));
                 }
@@ -322,7 +332,7 @@ static void every_signal(void) {
     for (int command = 0; command < 256; command++)
         for (int signals = 0; signals < 256; signals += command < 32 ? 1 : 15) {
             zk_b_state s = good_state(0);
-            s.command = (uint8_t)command;
+            s.control.command = (uint8_t)command;
             try_sync(s, signals);
         }
 }
@@ -349,7 +359,7 @@ static void the_documents_examples(void) {
     for (int i = 0; i < 3 * 64; i++) s = try_write(s, 2, i / 3);
     CHECK(zk_b_read(s, 4, queue, places, map, bytes).value == 0x04, "status with 64 waiting");
     zk_b_answer a = zk_b_write(s, 2, 0xaa, queue, places, map, bytes);
-    CHECK(a.refusal == 0 && a.count == 4 && a.state.waiting == 60, "a red write with 64 waiting");
+    CHECK(a.refusal == 0 && a.count == 4 && a.state.fifo.waiting == 60, "a red write with 64 waiting");
 }
 
 /* each refusal that this chip has was met often, and no other */
@@ -363,6 +373,7 @@ int main(void) {
     check_start();
     for (int i = 0; i <= ZK_B_MAP; i++) want_map[i] = (uint8_t)check_random();
     lend(ZK_B_PLACES, ZK_B_MAP);
+    RUN(the_layout);
     RUN(every_select_and_counter);
     RUN(random_good_states);
     RUN(bad_states_of_every_kind);

@@ -23,17 +23,37 @@ extern "C" {
 #define ZK_B_ENTRIES 8192
 #define ZK_B_MAP (3 * ZK_B_ENTRIES)
 
-/* The state beside the tables, with each field's range. */
-typedef struct zk_b_state {
+/* The state beside the tables, with each field's range. It stands in parts, so that a field that is added later moves
+ * its own part alone: code that hands on a part, or names a field by its part, stays as it is. The bytes between the
+ * parts mean nothing. */
+
+/* what accesses to the color map move */
+typedef struct zk_b_port {
     uint16_t address; /* below 8,192 */
     uint8_t counter;  /* 0 red, 1 green, 2 blue */
     uint8_t red;      /* the Color Buffer Register's red and green */
     uint8_t green;
+} zk_b_port;
+
+typedef struct zk_b_control {
     uint8_t command;  /* bits 5 to 7 are 0 */
     uint8_t readmode; /* 0 or 1 */
+} zk_b_control;
+
+typedef struct zk_b_ident {
     uint8_t revision; /* 0 to 7 */
     uint8_t board;    /* 0 to 15 */
-    uint8_t waiting;  /* 0 to 64 */
+} zk_b_ident;
+
+typedef struct zk_b_fifo {
+    uint8_t waiting; /* 0 to 64 */
+} zk_b_fifo;
+
+typedef struct zk_b_state {
+    zk_b_port port;
+    zk_b_control control;
+    zk_b_ident ident;
+    zk_b_fifo fifo;
 } zk_b_state;
 
 /* refusal (0 for none), the value read, how many entries were moved into the map, and the state after the call */

@@ -9,9 +9,10 @@ use lib.ListN.{length, take, set, length-append, length-set}
 use lib.Seq.{length-take-le, take-suc-set}
 use borrow.Author.Tests.{lt-ltb, le-ltb}
 use Rattle.vocabulary.proofs.Choice.{picks-first, picks-second, cases}
-use Rattle.sheet.specs.Sheet.{hex, hexDigit}
+use Rattle.hex.specs.Hex.{hex, hexDigit}
 use Rattle.answers.specs.declared.Text.{Text}
-use Rattle.answers.specs.Answers.{decimal, told, refusedText, Says, Adds}
+use Rattle.answers.specs.declared.News.{News}
+use Rattle.answers.specs.Answers.{decimal, told, refusedText, newsText, Says, Adds}
 
 abbrev text : List ℕ → ℕ → Text
 text bytes len = record { bytes = bytes; len = len }
@@ -102,3 +103,7 @@ module _ {t : Text} where
   pub says-done : (n : ℕ) (w : List ℕ) → n ≡ 0 → Says t w → Says t (told n w)
   unfolding told
   says-done n w e s = rw e s
+
+  -- and by what an accepted one tells
+  pub says-news : {news m : News} → news ≡ m → Says t (newsText m) → Says t (newsText news)
+  says-news e s = rw e s

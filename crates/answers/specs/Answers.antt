@@ -5,7 +5,7 @@ use mathlib.Core.List.{List, [], _∷_, _++_}
 use lib.Dec.{ltb}
 use lib.ListN.{length, take}
 use Rattle.vocabulary.specs.Choice.{pick}
-use Rattle.sheet.specs.Sheet.{hex}
+use Rattle.hex.specs.Hex.{hex}
 use Rattle.answers.specs.declared.Text.{Text}
 use Rattle.answers.specs.declared.News.{News}
 use Rattle.answers.specs.declared.News.the-variants.{Nothing, Moved, Value, Colour, Sync, Ten}

@@ -6,7 +6,7 @@ ghost use mathlib.Core.Path.{_≡_};
 ghost use mathlib.Core.List.{[], _∷_, _++_};
 ghost use Prim.Native.Nat.{_+_, _%_, _<_};
 ghost use lib.ListN.{take};
-ghost use Rattle.sheet.specs.Sheet.{hex as hexText};
+ghost use Rattle.hex.specs.Hex.{hex as hexText};
 ghost use Rattle.answers.specs.Answers.{Says, Adds, decimal as decimalText};
 ghost use Rattle.answers.specs.Answers.{okText, badText, colourText, refusedText, newsText, told as toldText};
 
@@ -24,12 +24,6 @@ pub enum News {
     Colour(u8, u8, u8),
     Sync(u8),
     Ten(u16),
-}
-
-fn wide(x: u8) -> u16
-    ensures { λ r. ⌜ r ≡ x ⌝ }
-{
-    x as u16
 }
 
 // The decimal digit of the units.
@@ -62,7 +56,7 @@ fn hex(t: Text, width: usize, v: u16) -> Text
     if width == 0 {
         return t;
     }
-    put(hex(t, width - 1, v / 16), sheet::digit(v))
+    put(hex(t, width - 1, v / 16), hex::digit(v))
 }
 
 // A decimal number of at most so many digits behind a text.
@@ -142,7 +136,7 @@ fn colour(r: u8, g: u8, b: u8) -> Text
         len: 7,
     };
     put(
-        hex(hex(hex(front, 2, wide(r)), 2, wide(g)), 2, wide(b)),
+        hex(hex(hex(front, 2, r as u16), 2, g as u16), 2, b as u16),
         b'\n',
     )
 }
@@ -154,9 +148,9 @@ fn line(news: News) -> Text
     match news {
         News::Nothing => ok(),
         News::Moved(n) => count(*b"moved=..........", 6, 5, n),
-        News::Value(v) => field(*b"value=..........", 6, 2, wide(v)),
+        News::Value(v) => field(*b"value=..........", 6, 2, v as u16),
         News::Colour(r, g, b) => colour(r, g, b),
-        News::Sync(s) => field(*b"sync=...........", 5, 1, wide(s)),
+        News::Sync(s) => field(*b"sync=...........", 5, 1, s as u16),
         News::Ten(t) => field(*b"ten=............", 4, 3, t),
     }
 }
@@ -164,7 +158,7 @@ fn line(news: News) -> Text
 pub fn refused(n: u8) -> Text
     ensures { λ r. ⌜ Says r (refusedText n) ⌝ }
 {
-    count(*b"refused=........", 8, 3, wide(n))
+    count(*b"refused=........", 8, 3, n as u16)
 }
 
 // A call's refusal, or else what it tells.

@@ -50,7 +50,10 @@ fn list<'a>(board: Board, colours: &'a [u8], overlays: &'a [u8], page: &mut [u8]
         (sheetTurn chipA
         (whole board (now (colours .entry)) (now (overlays .entry)) queue map table (now (page .entry))))) ⌝ }
 {
-    told(board, sheet_writer::write_sheet(board.a, colours, overlays, page))
+    told(
+        board,
+        sheet_writer::write_sheet(board.a, colours, overlays, page),
+    )
 }
 
 // The sheet of the chip that has one.

@@ -5,17 +5,18 @@ use mathlib.Core.Bool.{Bool, true, false}
 use mathlib.Core.List.{List, [], _∷_, map}
 use native.Mathlib.Omega.{arith}
 use native.Mathlib.Numerals.{add-one}
+use lib.Dec.{ltb}
 use lib.ListN.{length, length-map, getD, take, drop, length-append, length-take, length-drop, drop-of-length-le}
 use lib.Seq.{drop-cons}
 use Rattle.sheet.specs.declared.Line.{Line}
 use Rattle.sheet.specs.declared.Line.the-variants.{Has, Missing}
 use Rattle.sheet.specs.Sheet.{good, keys, sheetOf, registersOf, overlaysOf, coloursOf}
 use Rattle.sheet.proofs.Good.{sound}
-use Rattle.sheet_reader.specs.Reader.{lineFor}
+use Rattle.sheet.specs.Kept.{lineFor}
 use Rattle.calls.specs.Calls.{registerCalls, entryCalls, isThere}
 use Rattle.calls.specs.Calls.{tableCalls, callsOf}
 use Rattle.calls.specs.Kept.{entryCount, tableCount, Kept}
-use Rattle.calls.proofs.Stored.{length-bytes, register-bytes}
+use Rattle.calls.proofs.Stored.{length-bytes, kept-there, register-bytes}
 use Rattle.calls.proofs.Lent.{overlays-kept, colours-kept}
 
 entry-count : (s e : ℕ) (f : Bool) (x : Line) → length (entryCalls s e f x) ≡ entryCount f x
@@ -81,17 +82,19 @@ calls-bound l h =
 pub sheet-calls-bound : (t : List ℕ) (l : List Line) → sheetOf t ≡ good l → length (callsOf l) ≤ 786
 sheet-calls-bound t l e = calls-bound l (sound t l e .long)
 
--- one entry more of a count
-module _ (kept : List ℕ) (e : ℕ) (f : Bool) where
-  pub counts-none : length kept ≤ e → tableCount f (map lineFor (drop e kept)) ≡ 0
+-- a table's count, entry by entry: what is counted, and what is left
+module _ (kept : List ℕ) (e n : ℕ) (f : Bool)
+    (is : n + tableCount f (map lineFor (drop e kept)) ≡ tableCount false (map lineFor kept)) where
+  pub counts-all : length kept ≤ e → n ≡ tableCount false (map lineFor kept)
   unfolding tableCount
-  counts-none h = rw (drop-of-length-le kept h)
+  counts-all h = omega (arith, rw (drop-of-length-le kept h) at is)
 
-  pub counts-on : e < length kept → tableCount f (map lineFor (drop e kept))
-      ≡ entryCount f (lineFor (getD kept e 0))
-      + tableCount (isThere (lineFor (getD kept e 0))) (map lineFor (drop (e + 1) kept))
+  pub counts-on : {m : ℕ} → e < length kept → m ≡ entryCount f (lineFor (getD kept e 0))
+      → n + m + tableCount (ltb (getD kept e 0) 4096) (map lineFor (drop (e + 1) kept))
+      ≡ tableCount false (map lineFor kept)
   unfolding tableCount
-  counts-on h = rw (drop-cons kept e 0 h, add-one)
+  counts-on h c =
+      rw (kept-there, add-one) (omega (arith, rw (drop-cons kept e 0 h) at is))
 
 -- a good sheet's count, as it is kept
 pub count-all : (kept : List ℕ) {a b : ℕ} → Kept kept → a ≡ tableCount false (map lineFor (take 4 (drop 5 kept)))

@@ -17,10 +17,11 @@ use Rattle.sheet.specs.declared.Line.{Line}
 use Rattle.sheet.specs.Sheet.{good, bad, keys, keyAt, width, required, sheetOf, pasted, outcome}
 use Rattle.sheet.proofs.Texts.{required-first, width-register}
 use Rattle.sheet.proofs.Good.{Lawful, sound}
-use Rattle.sheet_reader.specs.Reader.{lineFor, readingOf}
+use Rattle.sheet.proofs.Kept.{kept-missing, kept-has}
+use Rattle.sheet.specs.Kept.{lineFor, readingOf}
 use Rattle.calls.specs.Calls.{callsOf, callBytes, callRefusals, sheetToCalls}
 use Rattle.calls.specs.Kept.{Kept}
-use Rattle.calls.proofs.Stored.{length-bytes, kept-missing, kept-has}
+use Rattle.calls.proofs.Stored.{length-bytes}
 
 -- what is tried before 8
 abbrev before : List Refusal
@@ -39,36 +40,6 @@ pub refused-bad : (t out : List ℕ) (n : ℕ) (kept : List ℕ) → readingOf n
     → outcome (Refused 8 n) out ≡ sheetToCalls t out
 refused-bad t out zero kept e h = absurd (h refl)
 refused-bad t out (suc n) kept e h = malformed-eight t out n e
-
-pub is-good : (t : List ℕ) (n : ℕ) (kept : List ℕ) → readingOf n kept ≡ sheetOf t → n ≡ 0
-    → good (map lineFor kept) ≡ sheetOf t
-is-good t n kept e z = rw z at e
-
--- a good sheet
-module _ (t out kept : List ℕ) (is : good (map lineFor kept) ≡ sheetOf t) where
-  abbrev bytes : ℕ
-  bytes = length (callBytes (callsOf (map lineFor kept)))
-
-  pub calls-fit : {n : ℕ} → n ≡ length (callsOf (map lineFor kept)) → 2 * n ≤ length out → bytes ≤ length out
-  calls-fit e h = omega (arith, length-bytes (callsOf (map lineFor kept)))
-
-  pub refused-short : {n : ℕ} → n ≡ length (callsOf (map lineFor kept)) → length out < 2 * n
-      → outcome (Refused 7 0) out ≡ sheetToCalls t out
-  unfolding sheetToCalls
-  refused-short {n} e h =
-      let short : length out < bytes = omega (arith, length-bytes (callsOf (map lineFor kept))) in
-      rw (sym is)
-      (stops (callRefusals (good (map lineFor kept)) out) 0 out _ (before ++ (malformed ∷ [])) shortBuffer 6 _ refl refl
-      (refl, (refl, (refl, (refl, (refl, (refl, (refl, (refl, tt)))))))) (lt-ltb (length out) bytes short))
-
-  pub done : {n : ℕ} {left : List ℕ} → n ≡ length (callsOf (map lineFor kept)) → 2 * n ≤ length out
-      → left ≡ pasted out 0 (callBytes (callsOf (map lineFor kept)))
-      → outcome (Done n) left ≡ sheetToCalls t out
-  unfolding sheetToCalls
-  done {n} e h f =
-      let room = calls-fit e h in
-      rw (sym is, e, f)
-      (goes-on (callRefusals (good (map lineFor kept)) out) 0 out _ (refl, (le-ltb (length out) bytes room, tt)))
 
 -- a required line that is kept is there
 required-kept : (k x : ℕ) (l : List Line) → required (keyAt k) ≡ true → Lawful k (lineFor x ∷ l)
@@ -98,8 +69,37 @@ lawful-kept (a ∷ b ∷ c ∷ d ∷ f ∷ l) e h =
     let r4 = register-kept 4 f (m l) (omega arith) (omega arith) (r3 .1) in
     record { long = e; read = r1 .0; blink = r2 .0; control = r3 .0; timing = r4 .0 }
 
--- so what is read of a good sheet is kept well
-pub good-kept : (t kept : List ℕ) → good (map lineFor kept) ≡ sheetOf t → Kept kept
-good-kept t kept e =
-    let s = sound t (map lineFor kept) (sym e) in
-    lawful-kept kept (sym (length-map kept lineFor) ∙ s .long) (s .lawful)
+pub calls-fit : (kept out : List ℕ) {n : ℕ} → n ≡ length (callsOf (map lineFor kept)) → 2 * n ≤ length out
+    → length (callBytes (callsOf (map lineFor kept))) ≤ length out
+calls-fit kept out e h = omega (arith, length-bytes (callsOf (map lineFor kept)))
+
+-- a good sheet
+module _ (t kept : List ℕ) {n : ℕ} (read : readingOf n kept ≡ sheetOf t) (z : n ≡ 0) where
+  is : good (map lineFor kept) ≡ sheetOf t
+  is = rw z at read
+
+  -- is kept well
+  pub good-kept : Kept kept
+  good-kept =
+      let s = sound t (map lineFor kept) (sym is) in
+      lawful-kept kept (sym (length-map kept lineFor) ∙ s .long) (s .lawful)
+
+  module _ (out : List ℕ) {count : ℕ} (counts : count ≡ length (callsOf (map lineFor kept))) where
+    abbrev bytes : ℕ
+    bytes = length (callBytes (callsOf (map lineFor kept)))
+
+    pub refused-short : length out < 2 * count → outcome (Refused 7 0) out ≡ sheetToCalls t out
+    unfolding sheetToCalls
+    refused-short h =
+        let short : length out < bytes = omega (arith, length-bytes (callsOf (map lineFor kept))) in
+        rw (sym is)
+        (stops (callRefusals (good (map lineFor kept)) out) 0 out _ (before ++ (malformed ∷ [])) shortBuffer 6 _ refl refl
+        (refl, (refl, (refl, (refl, (refl, (refl, (refl, (refl, tt)))))))) (lt-ltb (length out) bytes short))
+
+    pub done : {left : List ℕ} → 2 * count ≤ length out
+        → left ≡ pasted out 0 (callBytes (callsOf (map lineFor kept))) → outcome (Done count) left ≡ sheetToCalls t out
+    unfolding sheetToCalls
+    done h f =
+        let room = calls-fit kept out counts h in
+        rw (sym is, counts, f)
+        (goes-on (callRefusals (good (map lineFor kept)) out) 0 out _ (refl, (le-ltb (length out) bytes room, tt)))

@@ -9,35 +9,42 @@ use lib.Seq.{take-all}
 use borrow.Rule.Slice.PartMut.{putMid, midOf}
 use Rattle.sheet.specs.declared.Line.{Line}
 use Rattle.sheet.specs.Sheet.{pasted, Wrote, registersOf, overlaysOf, coloursOf}
+use Rattle.sheet.proofs.Kept.{kept-missing, kept-has}
 use Rattle.sheet.proofs.Paste.{pasted-more, length-pasted, wrote-more, lent-on, length-lent}
-use Rattle.sheet_reader.specs.Reader.{lineFor}
+use Rattle.sheet.specs.Kept.{lineFor}
 use Rattle.calls.specs.Calls.{registerCalls, addressCalls, colourCalls, entryCalls, tableCalls, tablesCalls}
 use Rattle.calls.specs.Calls.{callsOf, callBytes}
 use Rattle.calls.specs.Kept.{Kept}
-use Rattle.calls.proofs.Stored.{bytes-append, kept-has, register-bytes}
+use Rattle.calls.proofs.Stored.{bytes-append, nothing, register-bytes}
 
 -- A word in two parts: the first is written, and the second into the rest behind it.
 module _ (d P Q W : List ℕ) (split : W ≡ P ++ Q) (fits : length W ≤ length d) where
   sum : length P + length Q ≤ length d
   sum = omega (arith, ap length split ∙ length-append P Q)
 
-  module _ (e : List ℕ) {n : ℕ} (wrote : Wrote d 0 P n e) where
+  module _ {e : List ℕ} {n : ℕ} (wrote : Wrote d 0 P n e) where
     same : length e ≡ length d
     same = ap length (wrote .1) ∙ length-pasted d 0 P (omega (arith, sum))
 
-    pub inside : n ≤ length e
+    inside : n ≤ length e
     inside = omega (arith, sum, same, wrote .0)
 
-    pub rest-room : length Q ≤ length (midOf n (length e - n) e)
+    rest-room : length Q ≤ length (midOf n (length e - n) e)
     rest-room = omega (arith, sum, same, wrote .0, length-lent e n inside)
 
-    pub behind : (last : List ℕ) → last ≡ pasted (midOf n (length e - n) e) 0 Q
+    behind : {last : List ℕ} → last ≡ pasted (midOf n (length e - n) e) 0 Q
         → putMid n (length e - n) e last ≡ pasted d 0 W
-    behind last w =
+    behind {last} w =
         lent-on e n inside Q last w
         ∙ rw (split, wrote .0, wrote .1) (sym (pasted-more d 0 P (omega (arith, sum)) Q))
 
--- an entry that is there: its address write, and its colour behind
+-- an entry that is missing has no call
+pub entry-none : (s e : ℕ) (f : Bool) (x : ℕ) → 4096 ≤ x → (out : List ℕ) (at : ℕ)
+    → Wrote out at (callBytes (entryCalls s e f (lineFor x))) at out
+unfolding entryCalls callBytes
+entry-none s e f x h out at = rw (kept-missing x h) (nothing out at)
+
+-- one that is there: its address write, and its colour behind
 module _ (s e : ℕ) (f : Bool) (x : ℕ) (h : x < 4096) (out : List ℕ) (at : ℕ)
     (fits : at + length (callBytes (entryCalls s e f (lineFor x))) ≤ length out) where
   two : callBytes (entryCalls s e f (lineFor x)) ≡ callBytes (addressCalls f e) ++ callBytes (colourCalls s x)
@@ -51,14 +58,14 @@ module _ (s e : ℕ) (f : Bool) (x : ℕ) (h : x < 4096) (out : List ℕ) (at : 
   pub address-fits : at + length (callBytes (addressCalls f e)) ≤ length out
   address-fits = omega (arith, size)
 
-  module _ (out1 : List ℕ) (r : ℕ) (w : Wrote out at (callBytes (addressCalls f e)) r out1) where
+  module _ {out1 : List ℕ} {r : ℕ} (w : Wrote out at (callBytes (addressCalls f e)) r out1) where
     pub colour-fits : r + 6 ≤ length out1
     colour-fits =
         omega (arith, size, w .0, ap length (w .1) ∙ length-pasted out at (callBytes (addressCalls f e)) address-fits)
 
-    pub entry-wrote : (out2 : List ℕ) (q : ℕ) → Wrote out1 r (callBytes (colourCalls s x)) q out2
+    pub entry-wrote : {out2 : List ℕ} {q : ℕ} → Wrote out1 r (callBytes (colourCalls s x)) q out2
         → Wrote out at (callBytes (entryCalls s e f (lineFor x))) q out2
-    entry-wrote out2 q v = rw two (wrote-more out at (callBytes (addressCalls f e)) _ address-fits w v)
+    entry-wrote v = rw two (wrote-more out at (callBytes (addressCalls f e)) _ address-fits w v)
 
 -- the parts that are kept of the two tables
 map-take : (n : ℕ) (l : List ℕ) → map lineFor (take n l) ≡ take n (map lineFor l)
@@ -89,15 +96,45 @@ pub calls-split : (l : List Line) → callBytes (callsOf l)
 unfolding callsOf
 calls-split l = bytes-append (registerCalls 4 (registersOf l)) (tablesCalls l)
 
-module _ (kept out : List ℕ) where
-  pub overlays-fit : length (callBytes (tablesCalls (map lineFor kept))) ≤ length out
-      → length (callBytes (tableCalls 3 0 false (map lineFor (take 4 (drop 5 kept))))) ≤ length out
-  overlays-fit h = omega (arith, simp length-append at (ap length (tables-split kept)))
+module _ (kept out : List ℕ) (fits : length (callBytes (tablesCalls (map lineFor kept))) ≤ length out) where
+  abbrev first : List ℕ
+  first = callBytes (tableCalls 3 0 false (map lineFor (take 4 (drop 5 kept))))
 
-  pub registers-fit : Kept kept → length (callBytes (callsOf (map lineFor kept))) ≤ length out → 8 ≤ length out
-  registers-fit k h =
-      omega (
-        arith,
-        ap length (register-bytes kept k),
-        simp length-append at (ap length (calls-split (map lineFor kept))),
-      )
+  abbrev second : List ℕ
+  second = callBytes (tableCalls 1 0 false (map lineFor (take (length kept - 9) (drop 9 kept))))
+
+  pub overlays-fit : length first ≤ length out
+  overlays-fit = omega (arith, sum out first second _ (tables-split kept) fits)
+
+  module _ {e : List ℕ} {n : ℕ} (wrote : Wrote out 0 first n e) where
+    pub tables-inside : n ≤ length e
+    tables-inside = inside out first second _ (tables-split kept) fits wrote
+
+    pub tables-room : length second ≤ length (midOf n (length e - n) e)
+    tables-room = rest-room out first second _ (tables-split kept) fits wrote
+
+    pub tables-behind : {last : List ℕ} → last ≡ pasted (midOf n (length e - n) e) 0 second
+        → putMid n (length e - n) e last ≡ pasted out 0 (callBytes (tablesCalls (map lineFor kept)))
+    tables-behind w = behind out first second _ (tables-split kept) fits wrote w
+
+module _ (kept out : List ℕ) (fits : length (callBytes (callsOf (map lineFor kept))) ≤ length out) where
+  abbrev registers : List ℕ
+  registers = callBytes (registerCalls 4 (registersOf (map lineFor kept)))
+
+  abbrev tables : List ℕ
+  tables = callBytes (tablesCalls (map lineFor kept))
+
+  pub registers-fit : Kept kept → 8 ≤ length out
+  registers-fit k =
+      omega (arith, ap length (register-bytes kept k), sum out registers tables _ (calls-split (map lineFor kept)) fits)
+
+  module _ {e : List ℕ} {n : ℕ} (wrote : Wrote out 0 registers n e) where
+    pub calls-inside : n ≤ length e
+    calls-inside = inside out registers tables _ (calls-split (map lineFor kept)) fits wrote
+
+    pub calls-room : length tables ≤ length (midOf n (length e - n) e)
+    calls-room = rest-room out registers tables _ (calls-split (map lineFor kept)) fits wrote
+
+    pub calls-behind : {last : List ℕ} → last ≡ pasted (midOf n (length e - n) e) 0 tables
+        → putMid n (length e - n) e last ≡ pasted out 0 (callBytes (callsOf (map lineFor kept)))
+    calls-behind w = behind out registers tables _ (calls-split (map lineFor kept)) fits wrote w

@@ -7,12 +7,12 @@ use native.Mathlib.Omega.{arith}
 use lib.Dec.{ltb}
 use lib.ListN.{length, getD, set}
 use lib.Seq.{sets, sets-eq}
-use borrow.Author.Tests.{lt-ltb, le-ltb}
 use Rattle.vocabulary.specs.Choice.{pick}
 use Rattle.sheet.specs.declared.Line.the-variants.{Has, Missing}
 use Rattle.sheet.specs.Sheet.{registersOf, pasted, Wrote}
+use Rattle.sheet.proofs.Kept.{kept-has}
 use Rattle.sheet.proofs.Paste.{pasted-none}
-use Rattle.sheet_reader.specs.Reader.{lineFor}
+use Rattle.sheet.specs.Kept.{lineFor}
 use Rattle.calls.specs.Calls.{Call, registerCalls, colourCalls, isThere, callBytes}
 use Rattle.calls.specs.Kept.{Kept}
 
@@ -35,7 +35,7 @@ module _ (d : List ℕ) (at : ℕ) where
   pub two-stored : (a b : ℕ) → at + 2 ≤ length d → Wrote d at (a ∷ b ∷ []) (at + 2) (set (set d at a) (at + 1) b)
   two-stored a b h = let e : at + 1 ≡ suc at = omega arith in rw e (stores (a ∷ b ∷ []) d at h)
 
-  pub six-stored : (a b c f g i : ℕ) → at + 6 ≤ length d → Wrote d at (a ∷ b ∷ c ∷ f ∷ g ∷ i ∷ []) (at + 6)
+  six-stored : (a b c f g i : ℕ) → at + 6 ≤ length d → Wrote d at (a ∷ b ∷ c ∷ f ∷ g ∷ i ∷ []) (at + 6)
       (set (set (set (set (set (set d at a) (at + 1) b) (at + 2) c) (at + 3) f) (at + 4) g) (at + 5) i)
   six-stored a b c f g i h =
       let e1 : at + 1 ≡ suc at = omega arith in
@@ -58,25 +58,18 @@ unfolding pick
 there-by true x = refl
 there-by false x = refl
 
--- a key's line as it is kept
-module _ (x : ℕ) where
-  pub kept-missing : 4096 ≤ x → lineFor x ≡ Missing
-  unfolding lineFor pick
-  kept-missing h = rw (le-ltb x 4096 h)
-
-  pub kept-has : x < 4096 → lineFor x ≡ Has x
-  unfolding lineFor pick
-  kept-has h = rw (lt-ltb x 4096 h)
-
-  pub kept-there : ltb x 4096 ≡ isThere (lineFor x)
-  unfolding lineFor
-  kept-there = there-by (ltb x 4096) x
+pub kept-there : (x : ℕ) → ltb x 4096 ≡ isThere (lineFor x)
+unfolding lineFor
+kept-there x = there-by (ltb x 4096) x
 
 -- a colour's bytes, of its digits
-pub colour-bytes : (s v : ℕ) {r g b : ℕ} → v < 4096 → r ≡ v / 16 / 16 % 16 → g ≡ v / 16 % 16 → b ≡ v % 16
-    → s ∷ r ∷ s ∷ g ∷ s ∷ b ∷ [] ≡ callBytes (colourCalls s v)
+pub colour-stored : (d : List ℕ) (at s v : ℕ) {r g b : ℕ} → v < 4096 → r ≡ v / 16 / 16 % 16 → g ≡ v / 16 % 16
+    → b ≡ v % 16 → at + 6 ≤ length d
+    → Wrote d at (callBytes (colourCalls s v)) (at + 6)
+    (set (set (set (set (set (set d at s) (at + 1) r) (at + 2) s) (at + 3) g) (at + 4) s) (at + 5) b)
 unfolding callBytes
-colour-bytes s v {r} h re ge be = let m : r ≡ v / 16 / 16 = omega arith in rw (m, ge, be)
+colour-stored d at s v {r} h re ge be room =
+    let m : v / 16 / 16 ≡ r = omega arith in rw (m, ← ge, ← be) (six-stored d at s r s _ s _ room)
 
 -- the registers' bytes, as they are kept
 pub register-bytes : (kept : List ℕ) → Kept kept

@@ -7,7 +7,7 @@ ghost use mathlib.Core.Bool.{false};
 ghost use mathlib.Core.List.{map};
 ghost use Prim.Native.Nat.{_≤_, _<_};
 ghost use lib.ListN.{length};
-ghost use Rattle.sheet_reader.specs.Reader.{lineFor};
+ghost use Rattle.sheet.specs.Kept.{lineFor};
 ghost use Rattle.calls.specs.Calls.{callsOf};
 ghost use Rattle.calls.specs.Kept.{entryCount, tableCount, Kept};
 

@@ -1,94 +1,15 @@
 // A good sheet's calls, written into a lent buffer from what the reader kept of the sheet.
 //
-// Document 01, "The sheet and its calls", decides; the list is `callsOf` of calls' specs/Calls.antt. A call is two
-// bytes, select and byte; bytes past the list keep their values. Not modelled: as there.
+// Document 01, "The sheet and its calls", decides; the list is `callsOf` of calls' specs/Calls.antt: the registers, and
+// the two tables of calls_table behind them. Bytes past the list keep their values. Not modelled: as in calls.
 ghost use mathlib.Core.Path.{_≡_};
-ghost use mathlib.Core.Bool.{false};
 ghost use mathlib.Core.List.{[], _∷_, map};
-ghost use Prim.Native.Nat.{_+_, _%_, _≤_, _<_};
+ghost use Prim.Native.Nat.{_≤_, _<_};
 ghost use lib.ListN.{length};
 ghost use Rattle.sheet.specs.Sheet.{registersOf, pasted, Wrote};
-ghost use Rattle.sheet_reader.specs.Reader.{lineFor};
-ghost use Rattle.calls.specs.Calls.{call, addressCalls, colourCalls, entryCalls, tableCalls};
+ghost use Rattle.sheet.specs.Kept.{lineFor};
 ghost use Rattle.calls.specs.Calls.{registerCalls, tablesCalls, callsOf, callBytes};
 ghost use Rattle.calls.specs.Kept.{Kept};
-
-// The low four bits.
-fn low(x: u16) -> u8
-    ensures { λ r. ⌜ r ≡ x % 16 ⌝ }
-{
-    (x % 16) as u8
-}
-
-// A call into a buffer from a place on.
-fn put_call(out: &mut [u8], at: usize, select: u8, byte: u8) -> usize
-    requires { ⌜ at + 2 ≤ length (now out) ⌝ }
-    ensures { λ r. ⌜ Wrote (now (out .entry)) at (callBytes (call select byte ∷ [])) r (now (out .exit)) ⌝ }
-{
-    out[at] = select;
-    out[at + 1] = byte;
-    at + 2
-}
-
-// An address write, unless the entry follows the one before it.
-fn put_address(out: &mut [u8], at: usize, follows: bool, entry: u8) -> usize
-    requires { ⌜ at + length (callBytes (addressCalls follows entry)) ≤ length (now out) ⌝ }
-    ensures { λ r. ⌜ Wrote (now (out .entry)) at (callBytes (addressCalls follows entry)) r (now (out .exit)) ⌝ }
-{
-    if follows {
-        return at;
-    }
-    put_call(out, at, 0, entry)
-}
-
-// A colour's three writes.
-fn put_colour(out: &mut [u8], at: usize, select: u8, v: u16) -> usize
-    requires { ⌜ (v < 4096) × (at + 6 ≤ length (now out)) ⌝ }
-    ensures { λ r. ⌜ Wrote (now (out .entry)) at (callBytes (colourCalls select v)) r (now (out .exit)) ⌝ }
-{
-    let r = low(v / 16 / 16);
-    let g = low(v / 16);
-    let b = low(v);
-    out[at] = select;
-    out[at + 1] = r;
-    out[at + 2] = select;
-    out[at + 3] = g;
-    out[at + 4] = select;
-    out[at + 5] = b;
-    at + 6
-}
-
-// An entry's calls; none where it is missing.
-fn put_entry(out: &mut [u8], at: usize, select: u8, entry: u8, follows: bool, kept: u16) -> usize
-    requires { ⌜ at + length (callBytes (entryCalls select entry follows (lineFor kept))) ≤ length (now out) ⌝ }
-    ensures { λ r. ⌜ Wrote (now (out .entry)) at (callBytes (entryCalls select entry follows (lineFor kept))) r
-        (now (out .exit)) ⌝ }
-{
-    if 4096 <= kept {
-        return at;
-    }
-    let from = put_address(out, at, follows, entry);
-    put_colour(out, from, select, kept)
-}
-
-// A table's calls, from the start of a buffer on.
-fn table_calls(kept: &[u16], select: u8, out: &mut [u8]) -> usize
-    requires { ⌜ (length (now kept) ≤ 256)
-        × (length (callBytes (tableCalls select 0 false (map lineFor (now kept)))) ≤ length (now out)) ⌝ }
-    ensures { λ r. ⌜ Wrote (now (out .entry)) 0
-        (callBytes (tableCalls select 0 false (map lineFor (now (kept .entry))))) r (now (out .exit)) ⌝ }
-{
-    let mut entry: usize = 0;
-    let mut at: usize = 0;
-    let mut follows = false;
-    while entry < kept.len() {
-        let x = kept[entry];
-        at = put_entry(out, at, select, entry as u8, follows, x);
-        follows = x < 4096;
-        entry += 1;
-    }
-    at
-}
 
 fn narrow(x: u16) -> u8
     requires { ⌜ x < 256 ⌝ }
@@ -132,8 +53,8 @@ fn tables_calls(kept: &[u16], out: &mut [u8])
     ensures { λ _. ⌜ now (out .exit)
         ≡ pasted (now (out .entry)) 0 (callBytes (tablesCalls (map lineFor (now (kept .entry))))) ⌝ }
 {
-    let n = table_calls(&kept[5..9], 3, out);
-    table_calls(&kept[9..], 1, &mut out[n..]);
+    let n = calls_table::table_calls(&kept[5..9], 3, out);
+    calls_table::table_calls(&kept[9..], 1, &mut out[n..]);
 }
 
 // A good sheet's calls: registers, and the tables' behind them.

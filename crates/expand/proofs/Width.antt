@@ -6,11 +6,12 @@ use native.Mathlib.Nat.{mul-suc, mul-le-mul-left, div-lt-iff-lt-mul, mul-add-div
 use native.Mathlib.Omega.{arith}
 use lib.Pow.{pow-add, pow-pos}
 use Rattle.vocabulary.specs.Refusal.{outOfRange, lentLength}
-use Rattle.vocabulary.specs.Outcome.{accepting, refusing}
+use Rattle.vocabulary.specs.Outcome.{accepting}
 use Rattle.vocabulary.proofs.Range.{holds-passes, not-fails}
 use Rattle.vocabulary.proofs.Refusal.{refusal-is, refusal-none}
 use Rattle.vocabulary.proofs.Outcome.{refused-as, accepted-does}
-use Rattle.expand.specs.Expand.{ten, refusals, expansion}
+use Rattle.expand.specs.declared.Expanded.the-variants.{Ten, Refused}
+use Rattle.expand.specs.Expand.{ten, refusals, expansion, meaning}
 
 -- document 01's two rules
 pub ten-eight : (v : ℕ) → ten 8 v ≡ 4 * v + v / 64
@@ -23,7 +24,7 @@ ten-six v = refl
 
 module _ (w v : ℕ) where
   -- a value that the width does not hold is refusal 9
-  pub expansion-refused : 2 ^ w ≤ v → refusing 9 0 tt ≡ expansion w v
+  pub expansion-refused : 2 ^ w ≤ v → meaning Refused ≡ expansion w v
   unfolding expansion
   expansion-refused h =
       sym (refused-as 8 0 tt _
@@ -33,6 +34,10 @@ module _ (w v : ℕ) where
   pub expansion-accepted : v < 2 ^ w → accepting (ten w v) 0 tt ≡ expansion w v
   unfolding expansion
   expansion-accepted h = sym (accepted-does 0 tt _ (refusal-none (refusals w v) (holds-passes _ (h, tt), tt)))
+
+  -- with the rule's value, however it was found
+  pub expansion-ten : {t : ℕ} → t ≡ ten w v → v < 2 ^ w → meaning (Ten t) ≡ expansion w v
+  expansion-ten e h = rw e (expansion-accepted h)
 
 -- the two powers of the rule, at widths of 5 to 10 bits
 module _ (w : ℕ) (low : 5 ≤ w) (high : w ≤ 10) where

@@ -15,7 +15,7 @@ use Rattle.vocabulary.specs.Run.{Keeps, Unnoticed}
 use Rattle.vocabulary.proofs.Component.{put-length}
 use Rattle.vocabulary.proofs.Face.{called-holds}
 use Rattle.vocabulary.proofs.Range.{clash, passes-holds, holds-parts}
-use Rattle.vocabulary.proofs.Refusal.{None}
+use Rattle.vocabulary.specs.Judged.{None}
 use Rattle.vocabulary.proofs.Run.{unnoticed}
 use Rattle.vocabulary.proofs.Table.{values, table-rule}
 use Rattle.hd153108.specs.declared.Clock.{Clock}

@@ -12,7 +12,7 @@ use lib.ListN.{length, getD, take, drop}
 use Rattle.vocabulary.specs.Line.{line}
 use Rattle.vocabulary.specs.Range.{Bound, below, equal, clear, fails}
 use Rattle.vocabulary.specs.Refusal.{Row, _when_, lentLength, outOfRange, noAccess, refusalOf}
-use Rattle.vocabulary.specs.Outcome.{Outcome, accepting, answered}
+use Rattle.vocabulary.specs.Outcome.{Outcome, accepting, notReached, answered}
 use Rattle.vocabulary.specs.Component.{Component, red, green, blue, componentAt, put, colourWord}
 use Rattle.vocabulary.specs.Face.{calledBy}
 use Rattle.hd153108.specs.declared.Clock.{Clock}
@@ -205,10 +205,6 @@ abbrev pub withClock : Clock → Chip → Chip
 withClock k c = let s = c .state in withState (registers s (s .readmask) (s .blinkmask) (s .control) k) c
 
 -- ---- What an accepted access does to each register (Table 1.1, Table 3)
-
--- the reserved register's accesses are refused: its clauses are not reached
-abbrev pub notReached : Chip → Outcome Chip
-notReached c = accepting 0 0 c
 
 unfoldable pub written : Register → ℕ → Chip → Outcome Chip
 written addressRegister byte c = accepting 0 0 (withState (addressed byte (c .state)) c)

@@ -7,20 +7,13 @@
 use hd153108::State;
 use hd153108_shown::Pick;
 use hd153108_shown::picked;
+use vocabulary::Shown;
 ghost use mathlib.Core.Path.{_≡_};
 ghost use Prim.Native.Nat.{_+_, _*_, _≤_};
 ghost use lib.ListN.{length};
 ghost use Rattle.hd153108.specs.Hd153108.{chip, colourAt, pixelPart, pixels, called};
-ghost use Rattle.hd153108_pixel.specs.Outcome.{showing, lit};
-
-// The shown colour for C: refusal (0 for none) and three bytes, zeros where it is refused.
-#[repr(C)]
-pub struct Shown {
-    pub refusal: u8,
-    pub red: u8,
-    pub green: u8,
-    pub blue: u8,
-}
+ghost use Rattle.vocabulary.specs.Pixel.{showing};
+ghost use Rattle.hd153108_pixel.specs.Outcome.{lit};
 
 // The shown colour: three bytes of the chosen table, or no byte where the pixel is refused.
 pub fn pixel<'a>(

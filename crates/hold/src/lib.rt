@@ -28,9 +28,9 @@ fn said(hold: &[u8], len: usize) -> Line
     ensures { λ r. ⌜ r ≡ lineOf (firstOf len (now (hold .entry))) ⌝ }
 {
     if len <= hold.len() {
-        return log::parse(&hold[..len]);
+        return log_parse::parse(&hold[..len]);
     }
-    log::parse(hold)
+    log_parse::parse(hold)
 }
 
 // A byte that ends no line is held while there is room: how many are held then.

@@ -1,31 +1,25 @@
 // loadlist: one sheet on standard input, its calls on standard output.
 //
 // Document 01, "The sheet and its calls", decides. The first 4,096 bytes of the input decide: a good sheet has at most
-// 2,134 (proofs/Size.antt of crate sheet). Short reads are joined. It prints one call a line, `w`, select, `=`, byte in
+// 2,134 (proofs/Size.antt of crate sheet_written). Short reads are joined. It prints one call a line, `w`, select, `=`, byte in
 // hex; or the two lines `refused=8` and `line=`, with the number of the first bad or missing line. The list is made by
 // crate sheet_calls; its buffer holds the longest there is, 786 calls.
 ghost use mathlib.Core.Path.{_≡_};
 ghost use mathlib.Core.List.{[], _∷_};
 ghost use Prim.Native.Nat.{_/_, _%_};
-ghost use Rattle.sheet.specs.Sheet.{hexDigit};
+ghost use Rattle.hex.specs.Hex.{hexDigit};
 use libc::STDIN_FILENO;
 use libc::STDOUT_FILENO;
 use sheet::Answer;
-
-fn wide(x: u8) -> u16
-    ensures { λ r. ⌜ r ≡ x ⌝ }
-{
-    x as u16
-}
 
 // A call's line.
 fn call_line(select: u8, byte: u8) -> [u8; 6]
     ensures { λ r. ⌜ r
         ≡ 119 ∷ hexDigit (select % 16) ∷ 61 ∷ hexDigit (byte / 16 % 16) ∷ hexDigit (byte % 16) ∷ 10 ∷ [] ⌝ }
 {
-    let s = sheet::digit(wide(select));
-    let h = sheet::digit(wide(byte) / 16);
-    let l = sheet::digit(wide(byte));
+    let s = hex::digit(select as u16);
+    let h = hex::digit(byte as u16 / 16);
+    let l = hex::digit(byte as u16);
     [b'w', s, b'=', h, l, b'\n']
 }
 
@@ -33,7 +27,7 @@ fn show_calls(calls: &[u8], count: u16) {
     let mut i: u16 = 0;
     while i < count {
         let at = 2 * (i as usize);
-        let line = call_line(sheet::byte(calls, at), sheet::byte(calls, at + 1));
+        let line = call_line(hex::byte(calls, at), hex::byte(calls, at + 1));
         io::write_all(STDOUT_FILENO, &line);
         i += 1;
     }

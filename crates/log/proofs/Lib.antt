@@ -1,2 +1,1 @@
 pub mod Patterns
-pub mod Number

@@ -1,34 +1,17 @@
--- A line of a port log, without its LF: the forms that it may have, and what each says. A form is a pattern: a byte
--- string in which '#' stands for one hex digit, lower case, and any other byte for itself.
+-- A line of a port log, without its LF: the forms that it may have, and what each says. A form is a pattern, in which
+-- '#' stands for one hex digit, lower case, and any other byte for itself.
 use Prim.Native.Nat.{ℕ}
-use mathlib.Core.Bool.{Bool, true, false, _&&_, _||_}
 use mathlib.Core.List.{List, [], _∷_, _++_}
-use lib.Dec.{eqb, ltb, leb}
+use lib.Dec.{eqb, ltb}
 use Rattle.vocabulary.specs.Choice.{pick}
-use Rattle.sheet.specs.Sheet.{number}
+use Rattle.hex.specs.Hex.{number}
+use Rattle.log_pattern.specs.Pattern.{fits}
 use Rattle.log.specs.declared.Line.{Line}
 use Rattle.log.specs.declared.Line.the-variants.{To, Choose, Expand, Sheet, Bad}
 use Rattle.log.specs.declared.Chip.the-variants.{ChipA, ChipB, ChipC}
 use Rattle.log.specs.declared.Call.the-variants.{Write, Read, Reset, OfA, OfB}
 use Rattle.log.specs.declared.CallA.the-variants.{Tick, Pixel as PixelA}
 use Rattle.log.specs.declared.CallB.the-variants.{Pixel as PixelB, Blank, Sync}
-
--- ---- Patterns
-
--- '0' to '9', 'a' to 'f'
-unfoldable pub isDigit : ℕ → Bool
-isDigit b = (leb 48 b && leb b 57) || (leb 97 b && leb b 102)
-
--- whether a byte is one that a pattern's byte stands for; '#' is 35
-unfoldable pub stands : ℕ → ℕ → Bool
-stands p b = pick (eqb p 35) (isDigit b) (eqb p b)
-
--- whether a line has a pattern: as many bytes, each in its place
-unfoldable pub fits : List ℕ → List ℕ → Bool
-fits [] [] = true
-fits [] (b ∷ t) = false
-fits (p ∷ ps) [] = false
-fits (p ∷ ps) (b ∷ t) = stands p b && fits ps t
 
 -- ---- The forms
 

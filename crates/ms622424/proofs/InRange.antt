@@ -1,6 +1,6 @@
 -- A chip in range, to and from the tables of refusals 1 and 9, and what every call tries first. Assumes nothing.
 use Prim.Native.Nat.{ℕ, _^_}
-use mathlib.Core.Path.{_≡_, refl, sym, _∙_}
+use mathlib.Core.Path.{_≡_, sym, _∙_}
 use mathlib.Core.Bool.{Bool, true, false}
 use mathlib.Core.List.{[], _∷_}
 use Rattle.vocabulary.specs.Range.{below, Holds}
@@ -10,8 +10,8 @@ use Rattle.vocabulary.specs.Face.{calledBy}
 use Rattle.vocabulary.proofs.Range.{holds-passes, passes-holds, fails-right, clash}
 use Rattle.vocabulary.proofs.Refusal.{standing-clear}
 use Rattle.vocabulary.proofs.Call.{tried-first}
-use Rattle.ms622424.specs.Ms622424.{Chip, lengths, short, shortQueue, ranges, outside, InRange}
-use Rattle.ms622424.specs.Ms622424.{Call, writes, reads, blanks, pixels, signals, resets, refusals, does, called}
+use Rattle.ms622424.specs.Ms622424.{Chip, lengths, short, ranges, outside, InRange, Call, writes, reads, blanks}
+use Rattle.ms622424.specs.Ms622424.{pixels, signals, resets, refusals, does, called}
 
 pub in-range : (c : Chip) → Holds (lengths c) → Holds (ranges c) → InRange c
 in-range c l r = search

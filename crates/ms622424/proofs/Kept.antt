@@ -1,6 +1,6 @@
 -- A chip in range stays in range, whatever the call; pixels and timing signals leave it as it is. Assumes nothing.
-use Prim.Native.Nat.{ℕ, _+_, _*_, _/_, _%_, _^_, _<_}
-use mathlib.Core.Path.{_≡_, refl, sym, ap, subst, _∙_}
+use Prim.Native.Nat.{ℕ, _^_, _<_}
+use mathlib.Core.Path.{_≡_, refl, sym, subst, _∙_}
 use mathlib.Core.Bool.{Bool, true, false}
 use mathlib.Core.List.{List, [], _∷_, _++_}
 use native.Mathlib.Omega.{arith}
@@ -15,13 +15,12 @@ use Rattle.vocabulary.proofs.Range.{passes-holds, pair, clash}
 use Rattle.vocabulary.proofs.Every.{every-append, every-one, every-drop}
 use Rattle.vocabulary.proofs.Face.{called-clear, called-does, called-holds}
 use Rattle.vocabulary.proofs.Run.{unnoticed}
-use Rattle.ms622424.specs.declared.Port.{Port}
-use Rattle.ms622424.specs.Ms622424.{Chip, Entry, withPort, withQueue, lengths, queueLengths, inMap}
-use Rattle.ms622424.specs.Ms622424.{identRanges, ranges, InRange, selected, stepped, completed, complete, allStored, Moves, moves}
+use Rattle.ms622424.specs.Ms622424.{Chip, Entry, withPort, withQueue, lengths, queueLengths, inMap, identRanges}
+use Rattle.ms622424.specs.Ms622424.{ranges, InRange, selected, stepped, completed, complete, Moves, moves}
 use Rattle.ms622424.specs.Ms622424.{roomMade, taken, written, bufferStepped, answers, fresh, registerAt}
-use Rattle.ms622424.specs.Ms622424.{Register, addressLow, addressHigh, palette, command, status, buffer, revision}
-use Rattle.ms622424.specs.Ms622424.{initialization, none}
-use Rattle.ms622424.specs.Ms622424.{Call, writes, reads, blanks, pixels, signals, resets, refusals, does, called}
+use Rattle.ms622424.specs.Ms622424.{Register, addressLow, addressHigh, palette, command, status, buffer}
+use Rattle.ms622424.specs.Ms622424.{revision, initialization, none, Call, writes, reads, blanks, pixels}
+use Rattle.ms622424.specs.Ms622424.{signals, resets, refusals, does, called}
 use Rattle.ms622424.proofs.InRange.{in-range}
 use Rattle.ms622424.proofs.Moves.{all-stored-length, moves-are, room-cases, room-space}
 
@@ -179,3 +178,24 @@ accepted-in-order resets c a =
     let t = called-clear refusals does resets c a in
     subst (λ (o : Outcome Chip). InOrder (o .left)) (sym (called-does refusals does resets c a))
     (passes-holds (queueLengths c) (t .0) .0, refl)
+
+-- ---- What is done where nothing is refused gives no refusal itself
+access-accepts : (r : Register) (byte : ℕ) (c : Chip) → (written r byte c .refusal ≡ 0) × (answers r c .refusal ≡ 0)
+unfolding written answers
+access-accepts addressLow byte c = (refl, refl)
+access-accepts addressHigh byte c = (refl, refl)
+access-accepts palette byte c = (refl, refl)
+access-accepts command byte c = (refl, refl)
+access-accepts status byte c = (refl, refl)
+access-accepts buffer byte c = (refl, refl)
+access-accepts revision byte c = (refl, refl)
+access-accepts initialization byte c = (refl, refl)
+access-accepts none byte c = (refl, refl)
+
+pub does-accepts : (k : Call) (c : Chip) → does k c .refusal ≡ 0
+does-accepts (writes select byte) c = access-accepts (registerAt select) byte c .0
+does-accepts (reads select) c = access-accepts (registerAt select) 0 c .1
+does-accepts (blanks slots) c = refl
+does-accepts (pixels mode word) c = refl
+does-accepts (signals s) c = refl
+does-accepts resets c = refl

@@ -1,7 +1,6 @@
 -- Laws of the moves and of the map under stores. Assumes nothing.
 use Prim.Native.Nat.{ℕ, zero, suc, _+_, _*_, _<_, min}
 use mathlib.Core.Path.{_≡_, refl, sym, ap, subst, _∙_}
-use mathlib.Core.Bool.{true, false}
 use mathlib.Core.List.{List, [], _∷_, _++_}
 use native.Mathlib.Omega.{arith}
 use borrow.Author.Tests.{eq-eqb, ne-eqb, eqb-true, eqb-false}
@@ -11,8 +10,8 @@ use lib.Seq.{take-nil, drop-nil}
 use Rattle.vocabulary.specs.Component.{Component, part, oneOf}
 use Rattle.vocabulary.proofs.Choice.{cases, picks-first, picks-second}
 use Rattle.vocabulary.proofs.Component.{put-length, put-own}
-use Rattle.ms622424.specs.Ms622424.{Chip, withQueue, Entry, InRange, stored, allStored, complete}
-use Rattle.ms622424.specs.Ms622424.{Moves, made, slotted, moves, roomMade}
+use Rattle.ms622424.specs.Ms622424.{Chip, withQueue, Entry, InRange, stored, allStored, complete, Moves, made}
+use Rattle.ms622424.specs.Ms622424.{slotted, moves, roomMade}
 
 pub all-stored-length : (es : List Entry) (m : List ℕ) → length (allStored es m) ≡ length m
 unfolding allStored

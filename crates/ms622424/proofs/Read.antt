@@ -1,23 +1,22 @@
 -- Laws of a read: what an accepted one answers, and when it is refused. Assumes nothing.
-use Prim.Native.Nat.{ℕ, zero, suc, _<_}
+use Prim.Native.Nat.{ℕ, _≤_}
 use mathlib.Core.Path.{_≡_, refl, sym, ap, _∙_}
 use mathlib.Core.Bool.{true, false, not, _&&_}
-use mathlib.Core.List.{List, [], _∷_}
+use mathlib.Core.List.{[], _∷_}
 use native.Mathlib.Omega.{arith}
 use borrow.Author.Tests.{eq-eqb, ne-eqb}
-use lib.Dec.{leb, eqb}
-use lib.ListN.{length}
+use lib.Dec.{eqb}
+use lib.ListN.{length, List·getD-eq-default}
 use Rattle.vocabulary.specs.Refusal.{lentLength, outOfRange, noAccess, noIndex, readMode, stillWaiting}
 use Rattle.vocabulary.specs.Outcome.{Outcome, accepting, refusing}
 use Rattle.vocabulary.specs.Component.{Component, red, green, blue}
 use Rattle.vocabulary.specs.Choice.{pick}
 use Rattle.vocabulary.specs.Face.{calledBy}
 use Rattle.vocabulary.proofs.Call.{stops, goes-on}
-use Rattle.vocabulary.proofs.Choice.{cases}
 use Rattle.ms622424.specs.declared.Port.{Port}
-use Rattle.ms622424.specs.Ms622424.{Chip, InRange, registerAt, selected, withPort, mark, statusOf, statusByte}
-use Rattle.ms622424.specs.Ms622424.{fresh, buffer, bufferByte, bufferStepped, addressLow, addressHigh}
-use Rattle.ms622424.specs.Ms622424.{answers, readable, readRefusals, reads, called}
+use Rattle.ms622424.specs.Ms622424.{Register, none, accessModes, Chip, InRange, registerAt, selected, withPort}
+use Rattle.ms622424.specs.Ms622424.{mark, statusOf, statusByte, fresh, buffer, bufferByte, bufferStepped}
+use Rattle.ms622424.specs.Ms622424.{addressLow, addressHigh, answers, readable, readRefusals, reads, called}
 use Rattle.ms622424.proofs.InRange.{lengths-right, ranges-right}
 
 -- a read of the address moves nothing, and neither does the buffer's green read
@@ -34,19 +33,11 @@ pub fresh-status : (c : Chip) → statusByte (fresh c) ≡ 24
 unfolding statusByte statusOf mark pick
 fresh-status c = refl
 
-unreadable : (select : ℕ) (k : Component) → (select ≡ 0 → ⊥) → (select ≡ 1 → ⊥) → (select ≡ 2 → ⊥)
-    → (select ≡ 3 → ⊥) → (select ≡ 4 → ⊥) → (select ≡ 5 → ⊥) → (select ≡ 6 → ⊥) → (select ≡ 7 → ⊥)
-    → readable (registerAt select) k ≡ false
-unfolding registerAt readable
-unreadable zero k a b d e f g i j = absurd (a refl)
-unreadable (suc zero) k a b d e f g i j = absurd (b refl)
-unreadable (suc (suc zero)) k a b d e f g i j = absurd (d refl)
-unreadable (suc (suc (suc zero))) k a b d e f g i j = absurd (e refl)
-unreadable (suc (suc (suc (suc zero)))) k a b d e f g i j = absurd (f refl)
-unreadable (suc (suc (suc (suc (suc zero))))) k a b d e f g i j = absurd (g refl)
-unreadable (suc (suc (suc (suc (suc (suc zero)))))) k a b d e f g i j = absurd (i refl)
-unreadable (suc (suc (suc (suc (suc (suc (suc zero))))))) k a b d e f g i j = absurd (j refl)
-unreadable (suc (suc (suc (suc (suc (suc (suc (suc n)))))))) k a b d e f g i j = refl
+over-three : (n : ℕ) → (n ≡ 0 → ⊥) → (n ≡ 1 → ⊥) → (n ≡ 2 → ⊥) → (n ≡ 3 → ⊥) → 4 ≤ n
+over-three n a b d e = omega arith
+
+over-seven : (n : ℕ) → 4 ≤ n → (n ≡ 4 → ⊥) → (n ≡ 5 → ⊥) → (n ≡ 6 → ⊥) → (n ≡ 7 → ⊥) → 8 ≤ n
+over-seven n l a b d e = omega arith
 
 module _ (select : ℕ) (c : Chip) (h : InRange c) where
   -- a register that is read
@@ -90,7 +81,8 @@ module _ (select : ℕ) (c : Chip) (h : InRange c) where
   read-buffer k e f r d =
       let ok : readable buffer (selected (c .port)) ≡ true = rw f r in
       read-does 5 e ok refl refl
-      (d ∙ ap (λ (j : Component). accepting (bufferByte j (c .port)) 0 (withPort (bufferStepped j (c .port)) c)) (sym f))
+      (d
+      ∙ ap (λ (j : Component). accepting (bufferByte j (c .port)) 0 (withPort (bufferStepped j (c .port)) c)) (sym f))
 
   pub read-no-blue : select ≡ 5 → selected (c .port) ≡ blue → refusing 3 0 c ≡ called (reads select) c
   unfolding registerAt readable
@@ -99,4 +91,8 @@ module _ (select : ℕ) (c : Chip) (h : InRange c) where
   -- every other select
   pub not-read : (select ≡ 0 → ⊥) → (select ≡ 1 → ⊥) → (select ≡ 2 → ⊥) → (select ≡ 3 → ⊥) → (select ≡ 4 → ⊥)
       → (select ≡ 5 → ⊥) → (select ≡ 6 → ⊥) → (select ≡ 7 → ⊥) → refusing 3 0 c ≡ called (reads select) c
-  not-read a b d e f g i j = read-no-access (unreadable select _ a b d e f g i j)
+  unfolding registerAt readable
+  not-read a b d e f g i j =
+      let over = over-seven select (over-three select a b d e) f g i j in
+      let k = selected (c .port) in
+      read-no-access (ap (λ (r : Register). readable r k) (List·getD-eq-default accessModes none over))

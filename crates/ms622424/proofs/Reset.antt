@@ -1,5 +1,4 @@
 -- Laws of a reset: what it leaves and keeps, and when it is refused. Assumes nothing.
-use Prim.Native.Nat.{ℕ}
 use mathlib.Core.Path.{_≡_, refl}
 use mathlib.Core.Bool.{false}
 use mathlib.Core.List.{[], _∷_}
@@ -10,8 +9,8 @@ use Rattle.vocabulary.specs.Face.{calledBy}
 use Rattle.vocabulary.proofs.Range.{holds-passes, not-fails}
 use Rattle.vocabulary.proofs.Call.{stops, goes-on}
 use Rattle.vocabulary.proofs.Face.{called-holds}
-use Rattle.ms622424.specs.Ms622424.{Chip, shortQueue, identRanges, resetRefusals, fresh}
-use Rattle.ms622424.specs.Ms622424.{refusals, does, resets, called}
+use Rattle.ms622424.specs.Ms622424.{Chip, shortQueue, identRanges, resetRefusals, fresh, refusals, does, resets}
+use Rattle.ms622424.specs.Ms622424.{called}
 
 module _ (c : Chip) where
   pub reset-short : (c .lent .places ≡ 64 → ⊥) → refusing 1 0 c ≡ called resets c

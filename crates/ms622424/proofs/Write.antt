@@ -2,7 +2,7 @@
 use Prim.Native.Nat.{ℕ, zero, suc, _+_, _%_, _<_}
 use mathlib.Core.Path.{_≡_, refl, ap, _∙_}
 use mathlib.Core.Bool.{true, false, not, _&&_}
-use mathlib.Core.List.{List, [], _∷_}
+use mathlib.Core.List.{[], _∷_}
 use borrow.Author.Tests.{eq-eqb}
 use lib.Dec.{eqb}
 use Rattle.vocabulary.specs.Range.{below, fails}
@@ -13,9 +13,9 @@ use Rattle.vocabulary.specs.Face.{calledBy}
 use Rattle.vocabulary.proofs.Range.{holds-passes}
 use Rattle.vocabulary.proofs.Call.{stops, goes-on}
 use Rattle.ms622424.specs.declared.Port.{Port}
-use Rattle.ms622424.specs.Ms622424.{Chip, Entry, ranges, InRange, registerAt, selected, stepped, port, withPort}
-use Rattle.ms622424.specs.Ms622424.{complete, Moves, made, roomMade, addressLow, addressHigh, palette}
-use Rattle.ms622424.specs.Ms622424.{taken, written, writable, writeRefusals, writes, called}
+use Rattle.ms622424.specs.Ms622424.{Chip, ranges, InRange, registerAt, selected, stepped, port, withPort}
+use Rattle.ms622424.specs.Ms622424.{complete, Moves, made, roomMade, addressLow, addressHigh, palette, taken}
+use Rattle.ms622424.specs.Ms622424.{written, writable, writeRefusals, writes, called}
 use Rattle.ms622424.proofs.InRange.{lengths-right, ranges-hold}
 use Rattle.ms622424.proofs.Moves.{room-keeps}
 

@@ -10,7 +10,7 @@ use lib.ListN.{length, getD}
 use Rattle.vocabulary.specs.Choice.{pick}
 use Rattle.vocabulary.specs.Range.{Bound, below, equal, tested, fails}
 use Rattle.vocabulary.specs.Refusal.{Row, _when_, lentLength, outOfRange, noAccess, readMode, stillWaiting}
-use Rattle.vocabulary.specs.Outcome.{Outcome, accepting}
+use Rattle.vocabulary.specs.Outcome.{Outcome, accepting, notReached}
 use Rattle.vocabulary.specs.Component.{Component, red, green, blue, componentAt, part, oneOf, put, colourWord}
 use Rattle.vocabulary.specs.Every.{every}
 use Rattle.vocabulary.specs.Line.{line}
@@ -18,7 +18,6 @@ use Rattle.vocabulary.specs.Face.{calledBy}
 use Rattle.ms622424.specs.declared.Port.{Port}
 use Rattle.ms622424.specs.declared.Control.{Control}
 use Rattle.ms622424.specs.declared.Ident.{Ident}
-use Rattle.ms622424.specs.declared.Shown.{Shown}
 
 -- ---- The chip: registers, Write FIFO, color map
 
@@ -130,9 +129,11 @@ pub data Register : Type 0 where
   initialization : Register
   none : Register
 
+abbrev pub accessModes : List Register
+accessModes = addressLow ∷ addressHigh ∷ palette ∷ command ∷ status ∷ buffer ∷ revision ∷ initialization ∷ []
+
 unfoldable pub registerAt : ℕ → Register
-registerAt select =
-    getD (addressLow ∷ addressHigh ∷ palette ∷ command ∷ status ∷ buffer ∷ revision ∷ initialization ∷ []) select none
+registerAt select = getD accessModes select none
 
 -- RGB counter, "which color (red, green, or blue, in that order) is selected"
 abbrev pub selected : Port → Component
@@ -143,10 +144,6 @@ unfoldable pub stepped : Component → Port → Port
 stepped red p = port (p .address) 1 (p .red) (p .green)
 stepped green p = port (p .address) 2 (p .red) (p .green)
 stepped blue p = port ((p .address + 1) % entries) 0 (p .red) (p .green)
-
--- an access that is refused ("Invalid Operation") does nothing: its clauses are not reached
-abbrev pub notReached : Chip → Outcome Chip
-notReached c = accepting 0 0 c
 
 -- ---- Write FIFO: completing, and the moves into the color map
 
@@ -340,20 +337,6 @@ shown mode word c =
 abbrev pub pixelRefusals : ℕ → ℕ → Chip → List Row
 pixelRefusals mode word c =
     (lentLength when short c) ∷ (outOfRange when fails (below mode 4 ∷ below word (2 ^ 24) ∷ ranges c)) ∷ []
-
--- a pixel's answer is its refusal and the three bytes; it hands no state back
-abbrev pub showing : Shown → Chip → Outcome Chip
-showing a c = record {
-  refusal = a .refusal;
-  value = colourWord (a .red) (a .green) (a .blue);
-  count = 0;
-  line = 0;
-  left = c;
-}
-
--- a refused pixel's answer
-abbrev pub dark : ℕ → Shown
-dark n = record { refusal = n; red = 0; green = 0; blue = 0 }
 
 -- ---- PIPE.IN0–PIPE.IN3: the four timing signals
 

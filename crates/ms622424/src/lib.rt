@@ -29,12 +29,3 @@ pub struct Ident {
     pub revision: u8,
     pub board: u8,
 }
-
-// What a pixel answers: the refusal, 0 for none, and the three bytes of its colour.
-#[repr(C)]
-pub struct Shown {
-    pub refusal: u8,
-    pub red: u8,
-    pub green: u8,
-    pub blue: u8,
-}

@@ -3,12 +3,13 @@
 // Source document 004, "Pin Descriptions", and document 01, "Chip B", decide; ms622424's specs/Ms622424.antt says it
 // (`shown`, `pixelRefusals`). The call changes nothing. Not modelled: the pipeline's delay, the held colour while the
 // processor has the map, the pins' timing.
-use ms622424::Shown;
 use ms622424_places::State;
+use vocabulary::Shown;
 ghost use mathlib.Core.Path.{_≡_};
 ghost use Prim.Native.Nat.{_<_};
 ghost use Rattle.vocabulary.specs.Component.{Component};
-ghost use Rattle.ms622424.specs.Ms622424.{pixelByte, entryShown, showing, dark, pixels, called};
+ghost use Rattle.ms622424.specs.Ms622424.{pixelByte, entryShown, pixels, called};
+ghost use Rattle.vocabulary.specs.Pixel.{showing, dark};
 ghost use Rattle.ms622424_places.specs.Places.{handed, view};
 
 // The entry that a gun shows, of which `byte` is the gun's own byte of the pixel.

@@ -15,7 +15,8 @@ use Rattle.ms622424.specs.declared.Ident.{Ident}
 use Rattle.ms622424.specs.Ms622424.{Chip, Call, called}
 use Rattle.ms622424.proofs.Kept.{accepted-in-order}
 use Rattle.ms622424_places.specs.declared.Fifo.{Fifo}
-use Rattle.ms622424_places.specs.Places.{packed, unpacked, entriesIn, colours, right, Handed, handed, view, seen, Does}
+use Rattle.ms622424_places.specs.Places.{packed, unpacked, entriesIn, colours, right, Handed, handed, view}
+use Rattle.ms622424_places.specs.Places.{seen, Does}
 use Rattle.ms622424_places.proofs.Places.{how-many, unused, zeros}
 
 -- packing loses nothing

@@ -1,5 +1,5 @@
--- HOW 64 PLACES KEEP THE WAITING COLOURS, which chip a state and its lent tables are, and what a call promises. No other
--- file of definitions knows a place of the queue.
+-- HOW 64 PLACES KEEP THE WAITING COLOURS, which chip a state and its lent tables are, and what a call promises. No
+-- other file of definitions knows a place of the queue.
 use Prim.Native.Nat.{ℕ, _+_, _*_, _/_, _%_}
 use mathlib.Core.Path.{_≡_}
 use mathlib.Core.Bool.{Bool, _&&_}

@@ -8,9 +8,9 @@ use native.Mathlib.Numerals.{add-one}
 use native.Mathlib.Omega.{arith}
 use borrow.Author.Tests.{ltb-true}
 use lib.Dec.{ltb}
-use lib.ListN.{length, getD, take, drop, set, replicate, length-set, length-append, length-take, length-drop}
-use lib.ListN.{length-replicate, take-append-drop, replicate-append-replicate, drop-of-length-le}
-use lib.Seq.{take-suc, drop-cons, length-take-le, set-at, take-at, take-all, append-snoc, getD-append-add, getD-drop}
+use lib.ListN.{length, getD, take, drop, set, replicate, length-append, length-take, length-drop, length-replicate}
+use lib.ListN.{take-append-drop, replicate-append-replicate, drop-of-length-le}
+use lib.Seq.{take-suc, drop-cons, length-take-le, set-at, take-at, append-snoc, getD-append-add, getD-drop}
 use lib.Seq.{drop-append-add, drop-drop, take-take, getD-take}
 use Rattle.vocabulary.specs.Every.{every}
 use Rattle.vocabulary.proofs.Every.{every-at}

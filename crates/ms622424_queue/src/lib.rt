@@ -1,8 +1,9 @@
-// The MS622424's lent queue, the one crate of code that knows its places: its range, an entry put last, the oldest moved
-// into the map, emptied.
+// The MS622424's lent queue, the one crate of code that knows its places: its range, an entry put last, the oldest
+// moved into the map, emptied.
 //
-// Source document 004, "Write FIFO", and document 01, "Chip B", decide; ms622424's specs/Ms622424.antt says it (`moves`,
-// `complete`), and ms622424_places how the places keep it. Not modelled: what the output shows during a transfer.
+// Source document 004, "Write FIFO", and document 01, "Chip B", decide; ms622424's specs/Ms622424.antt says it
+// (`moves`, `complete`), and ms622424_places how the places keep it. Not modelled: what the output shows during a
+// transfer.
 pub mod range;
 
 use ms622424::Port;

@@ -1,16 +1,16 @@
 -- How the read's arms end, as the code knows it: an answer's promise, a test on it. Assumes nothing.
 use Prim.Native.Nat.{ℕ}
 use mathlib.Core.Path.{_≡_, refl, sym, ap, _∙_}
-use mathlib.Core.Bool.{not}
+use mathlib.Core.Bool.{true, not}
 use mathlib.Core.List.{List}
 use lib.ListN.{length}
 use borrow.Author.Tests.{eq-eqb, ne-eqb}
 use Rattle.vocabulary.specs.Outcome.{accepting}
-use Rattle.vocabulary.specs.Component.{red, green}
+use Rattle.vocabulary.specs.Component.{componentAt}
 use Rattle.ms622424.specs.declared.Port.{Port}
-use Rattle.ms622424.specs.Ms622424.{InRange, registerAt, selected, stepped, withPort, statusOf, statusByte}
+use Rattle.ms622424.specs.Ms622424.{InRange, registerAt, selected, stepped, withPort, statusOf, statusByte, buffer}
 use Rattle.ms622424.specs.Ms622424.{bufferByte, bufferStepped, readable, answers, reads, called}
-use Rattle.ms622424.proofs.Access.{is-red, is-green, is-blue}
+use Rattle.ms622424.proofs.Access.{is-blue}
 use Rattle.ms622424.proofs.Read.{read-does, read-outside-mode, read-waiting, read-buffer, read-no-blue, not-read}
 use Rattle.ms622424_places.specs.declared.Answer.{Answer}
 use Rattle.ms622424_places.specs.declared.State.{State}
@@ -51,17 +51,13 @@ module _ (s : State) (q m : List ℕ) (select : ℕ) (a : Answer) (h : InRange (
       (read-does select _ h 4 e refl refl refl
       (ap (λ (v : ℕ). accepting v 0 (view (handed s q m))) (g ∙ rw many refl)))
 
-  pub red-served : {v : ℕ} {t : State} → select ≡ 5 → s .port .counter ≡ 0 → a ≡ accept v 0 t
-      → accepting v 0 (view (handed t q m))
-      ≡ accepting (bufferByte red (s .port)) 0 (withPort (bufferStepped red (s .port)) (view (handed s q m))) → Served
-  unfolding readable
-  red-served e g f d = accepts s q m a _ q m f (read-buffer select _ h red e (is-red g) refl d)
-
-  pub green-served : {v : ℕ} {t : State} → select ≡ 5 → s .port .counter ≡ 1 → a ≡ accept v 0 t
-      → accepting v 0 (view (handed t q m))
-      ≡ accepting (bufferByte green (s .port)) 0 (withPort (bufferStepped green (s .port)) (view (handed s q m))) → Served
-  unfolding readable
-  green-served e g f d = accepts s q m a _ q m f (read-buffer select _ h green e (is-green g) refl d)
+  -- the buffer at red and at green, by the counter
+  pub buffer-served : {n v : ℕ} {t : State} → select ≡ 5 → s .port .counter ≡ n → readable buffer (componentAt n) ≡ true
+      → a ≡ accept v 0 t → v ≡ bufferByte (componentAt n) (s .port)
+      → view (handed t q m) ≡ withPort (bufferStepped (componentAt n) (s .port)) (view (handed s q m)) → Served
+  buffer-served {n} e g r f u w =
+      accepts s q m a _ q m f
+      (read-buffer select _ h (componentAt n) e (ap componentAt g) r (cc))
 
   pub blue-refused : select ≡ 5 → (s .port .counter ≡ 0 → ⊥) → (s .port .counter ≡ 1 → ⊥) → a ≡ refuse 3 s → Served
   blue-refused e g i f = refuses s q m a _ f (read-no-blue select _ h e (is-blue _ g i))
@@ -70,8 +66,7 @@ pub ruleset ends = (
   palette-served,
   waiting-refused,
   status-served,
-  red-served,
-  green-served,
+  buffer-served,
   blue-refused,
   refuses,
   accepts,

@@ -19,7 +19,7 @@ mod calls;
 mod show;
 
 use libc::STDIN_FILENO;
-use ms622424::State;
+use ms622424_places::State;
 
 // The chip's state, and how many places of the queue and bytes of the map are lent.
 struct Bench {

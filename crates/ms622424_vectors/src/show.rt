@@ -1,8 +1,8 @@
 // What the vectors print: the line's label from a place on, and an answer.
 use libc::STDOUT_FILENO;
-use ms622424::Answer;
-use ms622424::Shown;
-use ms622424::State;
+use ms622424_places::Answer;
+use ms622424_places::State;
+use vocabulary::Shown;
 
 fn text(t: &[u8]) {
     io::write_all(STDOUT_FILENO, t);
@@ -31,9 +31,9 @@ pub fn line(label: &[u8], at: usize, a: Answer) -> State {
     hex(b" value ", a.value);
     number(b" count ", a.count as u64);
     let s = a.state;
-    number(b", address ", s.address as u64);
-    number(b" counter ", s.counter as u64);
-    number(b" waiting ", s.waiting as u64);
+    number(b", address ", s.port.address as u64);
+    number(b" counter ", s.port.counter as u64);
+    number(b" waiting ", s.fifo.waiting as u64);
     text(b"\n");
     s
 }

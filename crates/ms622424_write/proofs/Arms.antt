@@ -6,10 +6,10 @@ use native.Mathlib.Omega.{arith}
 use lib.ListN.{length}
 use borrow.Author.Tests.{ne-eqb}
 use Rattle.vocabulary.specs.Outcome.{Outcome}
-use Rattle.vocabulary.specs.Component.{Component, red, green, blue}
-use Rattle.ms622424.specs.declared.Port.{Port}
-use Rattle.ms622424.specs.Ms622424.{Chip, InRange, Moves, made, moves, roomMade, registerAt, writable, palette, written}
-use Rattle.ms622424.specs.Ms622424.{selected, stepped, port, withPort, taken, complete, completed, writes, called}
+use Rattle.vocabulary.specs.Component.{red, green}
+use Rattle.ms622424.specs.Ms622424.{Chip, InRange, Moves, made, moves, roomMade, registerAt, writable, palette}
+use Rattle.ms622424.specs.Ms622424.{written, selected, stepped, port, withPort, taken, complete, completed, writes}
+use Rattle.ms622424.specs.Ms622424.{called}
 use Rattle.ms622424.proofs.Access.{is-red, is-green, is-blue}
 use Rattle.ms622424.proofs.Moves.{room-forced, room-left}
 use Rattle.ms622424.proofs.Write.{write-does}
@@ -23,7 +23,8 @@ module _ (s : State) (q m : List ℕ) (h : InRange (view (handed s q m))) where
   many : length (colours (s .fifo) q) ≡ s .fifo .waiting
   many = how-many (s .fifo) q (h .right) (h .places)
 
-  pub forced : {x : Moves} → s .fifo .waiting ≡ 64 → x ≡ moves 4 (view (handed s q m)) → x ≡ roomMade (view (handed s q m))
+  pub forced : {x : Moves} → s .fifo .waiting ≡ 64 → x ≡ moves 4 (view (handed s q m))
+      → x ≡ roomMade (view (handed s q m))
   forced e f = f ∙ sym (room-forced _ (many ∙ e))
 
   pub has : (s .fifo .waiting ≡ 64 → ⊥) → made 0 (view (handed s q m)) ≡ roomMade (view (handed s q m))

@@ -1,8 +1,7 @@
-pub mod Digits
 pub mod Texts
 pub mod Starts
 pub mod Lines
 pub mod Paste
 pub mod Going
 pub mod Good
-pub mod Size
+pub mod Kept

@@ -1,10 +1,11 @@
 -- Words written over a buffer, one behind the other, and into the rest of it that is lent on. Assumes nothing.
-use Prim.Native.Nat.{ℕ, _+_, _-_, _≤_}
+use Prim.Native.Nat.{ℕ, _+_, _-_, _≤_, _<_}
 use mathlib.Core.Path.{_≡_, sym, ap, _∙_}
 use mathlib.Core.List.{List, [], _++_, append-assoc, append-nil}
+use native.Mathlib.Numerals.{add-one}
 use native.Mathlib.Omega.{arith}
-use lib.ListN.{length, take, drop, length-append, length-drop, drop-of-length-le}
-use lib.Seq.{take-at, drop-at, drop-drop, length-take-le, take-all, take-length, paste, paste-zero}
+use lib.ListN.{length, take, drop, getD, set, length-append, length-drop, drop-of-length-le}
+use lib.Seq.{take-at, drop-at, drop-drop, length-take-le, take-all, take-length, paste, paste-zero, paste-suc}
 use borrow.Rule.Slice.PartMut.{putMid, midOf}
 use Rattle.sheet.specs.Sheet.{pasted, Wrote}
 
@@ -61,7 +62,11 @@ module _ (d : List ℕ) (at : ℕ) (inside : at ≤ length d) where
       let is : last ≡ w ++ drop (at + length w) d = e ∙ rw (rest, zero-on, drop-drop) in
       rw (none, is, append-nil, append-assoc)
 
--- a word written byte by byte
-pub paste-all : (d : List ℕ) (at : ℕ) (w : List ℕ) (n : ℕ) → length w ≡ n → paste d at w n ≡ pasted d at w
-unfolding pasted
-paste-all d at w n e = rw (sym e, take-length)
+-- a word written byte by byte: so far, the first i of them
+module _ (d : List ℕ) (at : ℕ) (w : List ℕ) (i : ℕ) {out : List ℕ} (is : out ≡ paste d at w i) where
+  pub paste-on : i < length w → at + length w ≤ length d → set out (at + i) (getD w i 0) ≡ paste d at w (i + 1)
+  paste-on g h = rw (is, paste-suc d at w i 0 (omega arith) g, add-one)
+
+  pub paste-all : i ≤ length w → length w ≤ i → Wrote d at w (at + i) out
+  unfolding pasted
+  paste-all g h = let e : i ≡ length w = omega arith in (rw e, rw e at is ∙ rw take-length)

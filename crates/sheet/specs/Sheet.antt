@@ -5,38 +5,19 @@ use Prim.Native.Nat.{ℕ, zero, suc, _+_, _-_, _*_, _/_, _%_}
 use mathlib.Core.Path.{_≡_}
 use mathlib.Core.Bool.{Bool, true, false, _&&_, _||_}
 use mathlib.Core.List.{List, [], _∷_, _++_, map}
-use lib.Dec.{eqb, ltb, leb}
+use lib.Dec.{eqb, ltb}
 use lib.Bits.{bitAnd}
 use lib.ListN.{length, getD, take, drop}
 use Rattle.vocabulary.specs.Choice.{pick}
 use Rattle.vocabulary.specs.Refusal.{Row, _when_, lentLength, outOfRange, overFifteen, shortBuffer, refusalOf}
 use Rattle.vocabulary.specs.Outcome.{Outcome, accepting, refusing, answered}
 use Rattle.vocabulary.specs.Reply.{Reply, decoded, telling as tellingOf}
+use Rattle.hex.specs.Hex.{hex, number}
 use Rattle.hd153108.specs.Hd153108.{Chip, reservedBits, short, outside}
 use Rattle.sheet.specs.declared.Line.{Line}
 use Rattle.sheet.specs.declared.Line.the-variants.{Has, Missing}
 use Rattle.sheet.specs.declared.Answer.{Answer}
 use Rattle.sheet.specs.declared.Answer.the-variants.{Done, Refused}
-
--- ---- Hex digits, lower case
-
--- the digit of a number below 16: '0' to '9', 'a' to 'f'
-unfoldable pub hexDigit : ℕ → ℕ
-hexDigit d = pick (ltb d 10) (48 + d) (87 + d)
-
--- the number that a digit stands for; 0 for any other byte
-unfoldable pub hexValue : ℕ → ℕ
-hexValue b = pick (leb b 47) 0 (pick (leb b 57) (b - 48) (pick (leb b 96) 0 (pick (leb b 102) (b - 87) 0)))
-
--- w digits of v, the highest first
-unfoldable pub hex : ℕ → ℕ → List ℕ
-hex zero v = []
-hex (suc w) v = hex w (v / 16) ++ hexDigit (v % 16) ∷ []
-
--- the number that w bytes of t spell, from place i on
-unfoldable pub number : ℕ → ℕ → List ℕ → ℕ
-number zero i t = 0
-number (suc w) i t = number w i t * 16 + hexValue (getD t (i + w) 0)
 
 -- ---- The keys, in the sheet's order: the five first lines, o0 to o3, c00 to cff
 

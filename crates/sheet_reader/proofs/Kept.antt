@@ -6,15 +6,18 @@ use native.Mathlib.Numerals.{add-one}
 use native.Mathlib.Omega.{arith}
 use lib.ListN.{length, take, drop, set, replicate, length-set, take-append-drop, drop-of-length-le}
 use lib.Seq.{take-add, take-suc-set, drop-set-lt, drop-drop}
-use borrow.Author.Tests.{lt-ltb}
 use Rattle.vocabulary.specs.Choice.{pick}
 use Rattle.sheet.specs.declared.Line.{Line}
 use Rattle.sheet.specs.declared.Line.the-variants.{Has, Missing}
-use Rattle.sheet.specs.Sheet.{keys, keyAt, lineOf, Reading, good, bad, readFrom}
+use Rattle.sheet.specs.Sheet.{keys, keyAt, lineOf, Reading, good, bad, readFrom, sheetOf}
+use Rattle.sheet.specs.Kept.{lineFor, readingOf}
 use Rattle.sheet.proofs.Lines.{line-fits}
 use Rattle.sheet.proofs.Texts.{line-length}
-use Rattle.sheet_reader.specs.Reader.{leads, after, lineFor, readingOf}
-use Rattle.sheet_reader.proofs.Leads.{leads-append, leads-bad, leads-good, stop, skip}
+use Rattle.sheet.proofs.Kept.{kept-has}
+use Rattle.sheet_key.specs.declared.Found.{Found}
+use Rattle.sheet_key.specs.declared.Found.the-variants.{At, Bad}
+use Rattle.sheet_key.specs.Reader.{leads, after, onFrom, Right}
+use Rattle.sheet_key.proofs.Leads.{leads-append, leads-bad, leads-good, stop, skip}
 
 -- a list of one number, cut
 take-same : (m r x : ℕ) → take m (replicate (m + r) x) ≡ replicate m x
@@ -32,54 +35,70 @@ unfolding lineFor pick
 map-same zero = refl
 map-same (suc m) = ap (λ (l : List Line). Missing ∷ l) (map-same m)
 
-line-for : (v : ℕ) → v < 4096 → lineFor v ≡ Has v
-unfolding lineFor pick
-line-for v h = rw (lt-ltb v 4096 h)
+-- a bad line: whatever is kept before it
+is-bad : (before kept : List ℕ) (n : ℕ) (r whole : Reading) → 1 ≤ n → r ≡ bad n
+    → leads (map lineFor before) r ≡ whole → readingOf n kept ≡ whole
+is-bad before kept zero r whole h e f = absurd (let z : ⊥ = omega arith in z)
+is-bad before kept (suc n) r whole h e f = sym (leads-bad (map lineFor before) (suc n)) ∙ (rw e at f)
 
--- from the key that is due on, no line is kept yet
-pub record Open (kept : List ℕ) (due : ℕ) : Type 0 where
+-- What is read so far of a text: n - 1 lines, up to the place `at`, with the keys before `due`. From `due` on no line is
+-- kept yet, and the sheet from there on, behind all that is kept, is the whole.
+pub record SoFar (text kept : List ℕ) (due n at : ℕ) : Type 0 where
+  pub keyed : due ≤ keys
+  pub inside : at ≤ length text
+  pub from-one : 1 ≤ n
+  pub counted : n ≤ due + 1
   pub long : length kept ≡ keys
   pub rest : drop due kept ≡ replicate (keys - due) 4096
+  pub whole : leads (map lineFor (take due kept)) (readFrom (keys - due) due n (drop at text)) ≡ sheetOf text
 
 -- a line is kept, with those that are missing before it
-module _ (kept : List ℕ) (due k v : ℕ) (is : Open kept due) (from : due ≤ k) (to : k < keys) (h : v < 4096) where
-  pub stays-open : Open (set kept k v) (k + 1)
-  stays-open =
-      let e : k + 1 ≡ due + (k + 1 - due) = omega arith in
-      let f : keys - due ≡ (k + 1 - due) + (keys - (k + 1)) = omega arith in
-      let l : k < k + 1 = omega arith in
-      record {
-        long = length-set kept k v ∙ is .long;
-        rest =
-            drop-set-lt (k + 1) kept k v l ∙ ap (λ (n : ℕ). drop n kept) e
-            ∙ sym (drop-drop (k + 1 - due) due kept)
-            ∙ ap (drop (k + 1 - due)) (is .rest ∙ ap (λ (n : ℕ). replicate n 4096) f)
-            ∙ drop-same (k + 1 - due) (keys - (k + 1)) 4096;
-      }
-
+module _ (text kept : List ℕ) (due n at k v : ℕ) (is : SoFar text kept due n at) (from : due ≤ k) (to : k < keys)
+    (h : v < 4096) where
   passed : take k kept ≡ take due kept ++ replicate (k - due) 4096
   passed =
       let e : k ≡ due + (k - due) = omega arith in
       let f : keys - due ≡ (k - due) + (keys - k) = omega arith in
       ap (λ (n : ℕ). take n kept) e ∙ take-add due (k - due) kept
-      ∙ ap (λ (l : List ℕ). take due kept ++ take (k - due) l) (is .rest ∙ ap (λ (n : ℕ). replicate n 4096) f)
-      ∙ ap (λ (l : List ℕ). take due kept ++ l) (take-same (k - due) (keys - k) 4096)
+      ∙ rw (is .rest, f, take-same (k - due) (keys - k) 4096)
 
-  pub keeps : map lineFor (take (k + 1) (set kept k v)) ≡ map lineFor (take due kept) ++ after (k - due) v
+  still-none : drop (k + 1) (set kept k v) ≡ replicate (keys - (k + 1)) 4096
+  still-none =
+      let e : k + 1 ≡ due + (k + 1 - due) = omega arith in
+      let f : keys - due ≡ (k + 1 - due) + (keys - (k + 1)) = omega arith in
+      drop-set-lt (k + 1) kept k v (omega arith) ∙ ap (λ (n : ℕ). drop n kept) e
+      ∙ sym (drop-drop (k + 1 - due) due kept) ∙ rw (is .rest, f, drop-same (k + 1 - due) (keys - (k + 1)) 4096)
+
+  keeps : map lineFor (take (k + 1) (set kept k v)) ≡ map lineFor (take due kept) ++ after (k - due) v
   keeps =
       let l : k < length kept = omega (arith, is .long) in
-      rw (add-one, take-suc-set kept k v l, passed, map-append, map-append, map-same, append-assoc, line-for v h)
+      rw (add-one, take-suc-set kept k v l, passed, map-append, map-append, map-same, append-assoc, kept-has v h)
 
-  -- so the sheet from the next key on, behind all that is kept, is still the whole
-  pub still : (r whole : Reading) → leads (map lineFor (take due kept)) (leads (after (k - due) v) r) ≡ whole
-      → leads (map lineFor (take (k + 1) (set kept k v))) r ≡ whole
-  still r whole e = rw keeps (leads-append (map lineFor (take due kept)) (after (k - due) v) r ∙ e)
+  kept-on : (next : ℕ) → next ≤ length text
+      → readFrom (keys - due) due n (drop at text)
+      ≡ leads (after (k - due) v) (readFrom (keys - (k + 1)) (k + 1) (n + 1) (drop next text))
+      → SoFar text (set kept k v) (k + 1) (n + 1) next
+  kept-on next inner e = record {
+    keyed = omega arith;
+    inside = inner;
+    from-one = omega arith;
+    counted = omega (arith, is .counted);
+    long = length-set kept k v ∙ is .long;
+    rest = still-none;
+    whole = rw keeps (leads-append (map lineFor (take due kept)) (after (k - due) v) _ ∙ (rw e at (is .whole)));
+  }
 
--- a bad line: whatever is kept before it
-pub is-bad : (before : List ℕ) (kept : List ℕ) (n : ℕ) (r whole : Reading) → 1 ≤ n → r ≡ bad n
-    → leads (map lineFor before) r ≡ whole → readingOf n kept ≡ whole
-is-bad before kept zero r whole h e f = absurd (let z : ⊥ = omega arith in z)
-is-bad before kept (suc n) r whole h e f = sym (leads-bad (map lineFor before) (suc n)) ∙ (rw e at f)
+-- a line, by its answer
+module _ (text kept : List ℕ) (due n at : ℕ) (is : SoFar text kept due n at) {x : Found} (r : Right text at due x) where
+  pub reads-on : {k v next : ℕ} → x ≡ At k v next → SoFar text (set kept k v) (k + 1) (n + 1) next
+  unfolding onFrom
+  reads-on {k} {v} {next} e =
+      let s = rw e at r in
+      kept-on text kept due n at k v is (s .0 .0) (s .0 .1) (s .0 .2) next (s .0 .3) (s .1 n)
+
+  pub reads-bad : x ≡ Bad → readingOf n kept ≡ sheetOf text
+  unfolding onFrom
+  reads-bad e = is-bad (take due kept) kept n _ _ (is .from-one) ((rw e at r) .1 n) (is .whole)
 
 -- the end of the text
 nothing-by : (k : ℕ) (x : Line) → lineOf (keyAt k) [] ≡ x → x ≡ Missing
@@ -104,21 +123,22 @@ module _ (due n : ℕ) where
       ∙ leads-good (replicate (keys - due) Missing) []
       ∙ ap good (append-nil (replicate (keys - due) Missing))
 
-all-kept : (kept : List ℕ) (due : ℕ) → Open kept due
-    → map lineFor (take due kept) ++ replicate (keys - due) Missing ≡ map lineFor kept
-all-kept kept due is =
-    sym (ap (λ (l : List Line). map lineFor (take due kept) ++ l) (ap (map lineFor) (is .rest) ∙ map-same (keys - due)))
-    ∙ sym (map-append lineFor (take due kept) (drop due kept)) ∙ ap (map lineFor) (take-append-drop due kept)
+module _ (text kept : List ℕ) (due n at : ℕ) (is : SoFar text kept due n at) where
+  all-kept : map lineFor (take due kept) ++ replicate (keys - due) Missing ≡ map lineFor kept
+  all-kept =
+      sym (ap (λ (l : List Line). map lineFor (take due kept) ++ l)
+      (ap (map lineFor) (is .rest) ∙ map-same (keys - due)))
+      ∙ sym (map-append lineFor (take due kept) (drop due kept)) ∙ ap (map lineFor) (take-append-drop due kept)
 
-module _ (text kept : List ℕ) (at due n : ℕ) (whole : Reading) (end : length text ≤ at)
-    (e : leads (map lineFor (take due kept)) (readFrom (keys - due) due n (drop at text)) ≡ whole) where
-  pub ends-bad : due < 5 → 1 ≤ n → readingOf n kept ≡ whole
-  ends-bad h m = is-bad (take due kept) kept n _ whole m (rw (drop-of-length-le text end) (end-bad due n h)) e
+  module _ (end : length text ≤ at) where
+    pub ends-bad : due < 5 → readingOf n kept ≡ sheetOf text
+    ends-bad h =
+        is-bad (take due kept) kept n _ _ (is .from-one) (rw (drop-of-length-le text end) (end-bad due n h)) (is .whole)
 
-  pub ends-good : 5 ≤ due → Open kept due → readingOf 0 kept ≡ whole
-  ends-good h is =
-      let r : readFrom (keys - due) due n (drop at text) ≡ good (replicate (keys - due) Missing) =
-      rw (drop-of-length-le text end) (end-good due n h) in
-      ap good (sym (all-kept kept due is))
-      ∙ sym (leads-good (map lineFor (take due kept)) (replicate (keys - due) Missing))
-      ∙ (rw r at e)
+    pub ends-good : 5 ≤ due → readingOf 0 kept ≡ sheetOf text
+    ends-good h =
+        let r : readFrom (keys - due) due n (drop at text) ≡ good (replicate (keys - due) Missing) =
+        rw (drop-of-length-le text end) (end-good due n h) in
+        ap good (sym all-kept)
+        ∙ sym (leads-good (map lineFor (take due kept)) (replicate (keys - due) Missing))
+        ∙ (rw r at (is .whole))

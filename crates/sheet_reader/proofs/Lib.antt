@@ -1,4 +1,1 @@
-pub mod Leads
-pub mod Naming
-pub mod Along
 pub mod Kept

@@ -12,9 +12,9 @@ use Rattle.hd153108.proofs.Data.{byte-at}
 use Rattle.sheet.specs.declared.Line.{Line}
 use Rattle.sheet.specs.declared.Line.the-variants.{Has, Missing}
 use Rattle.sheet.specs.Sheet.{sheetOf, good, coloursIn, values, chipLines, textOf, overFifteenIn}
-use Rattle.sheet_writer.specs.Writer.{Writable}
-use Rattle.sheet_writer.proofs.Values.{length-colours}
-use Rattle.sheet_writer.proofs.Round.{round}
+use Rattle.sheet_written.specs.Writer.{Writable}
+use Rattle.sheet_written.proofs.Values.{length-colours}
+use Rattle.sheet_written.proofs.Round.{round}
 use Rattle.theorem_load.specs.Load.{Writing, writing, entriesOf, filled, Leaves, LoadsSheets, Same, LoadsBack}
 use Rattle.theorem_load.proofs.Colours.{listed}
 use Rattle.theorem_load.proofs.Load.{load}

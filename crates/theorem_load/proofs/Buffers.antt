@@ -14,7 +14,7 @@ use Rattle.hd153108.proofs.InRange.{not-short, not-outside}
 use Rattle.sheet.specs.declared.Line.{Line}
 use Rattle.sheet.specs.Sheet.{sheetOf, good, textOf, overFifteenIn, pasted, writeRefusals, write}
 use Rattle.calls.specs.Calls.{Call, call, callsOf, callBytes, callRefusals, sheetToCalls}
-use Rattle.sheet_writer.specs.Writer.{Writable}
+use Rattle.sheet_written.specs.Writer.{Writable}
 use Rattle.theorem_load.proofs.Back.{writable-in-range}
 
 -- a chip becomes its sheet, in a buffer that has the room

@@ -11,8 +11,8 @@ use Rattle.hd153108.proofs.InRange.{in-range}
 use Rattle.sheet.specs.declared.Line.{Line}
 use Rattle.sheet.specs.declared.Line.the-variants.{Has, Missing}
 use Rattle.sheet.specs.Sheet.{sheetOf, linesOf, overFifteenIn, redOf, greenOf, blueOf, textOf}
-use Rattle.sheet_writer.specs.Writer.{Writable}
-use Rattle.sheet_writer.proofs.Round.{round}
+use Rattle.sheet_written.specs.Writer.{Writable}
+use Rattle.sheet_written.proofs.Round.{round}
 use Rattle.calls.specs.Calls.{Call, registerCalls, callsOf}
 use Rattle.theorem_load.specs.Load.{Writing, making, made, AllAccepted, registerLines, entriesOf, filled}
 use Rattle.theorem_load.specs.Load.{Loads, LoadsSheets, Same}

@@ -8,7 +8,7 @@ use lib.ListN.{length, getD}
 use Rattle.hd153108.specs.Hd153108.{colourAt}
 use Rattle.sheet.specs.declared.Line.the-variants.{Has, Missing}
 use Rattle.sheet.specs.Sheet.{coloursIn, overFifteenIn, redOf, greenOf, blueOf}
-use Rattle.sheet_writer.proofs.Values.{low-first}
+use Rattle.sheet_written.proofs.Values.{low-first}
 use Rattle.theorem_load.specs.Load.{filled}
 
 -- an entry's bytes are below 16, and so are those behind it

@@ -15,7 +15,7 @@ use Rattle.sheet.specs.declared.Line.{Line}
 use Rattle.sheet.specs.declared.Line.the-variants.{Has, Missing}
 use Rattle.sheet.specs.Sheet.{sheetOf, good, linesOf, registersOf, overlaysOf, coloursOf, redOf, greenOf, blueOf}
 use Rattle.sheet.specs.Sheet.{textOf}
-use Rattle.sheet_writer.specs.Writer.{Writable}
+use Rattle.sheet_written.specs.Writer.{Writable}
 use Rattle.calls.specs.Calls.{Call, callsOf}
 
 -- "any state and tables within A's ranges and lengths" is `InRange` of Hd153108
@@ -77,7 +77,7 @@ LoadsSheets w =
 
 -- ---- "A's colours and registers, where no table byte is over 15, become a sheet that loads back equal"
 
--- which chips the writer takes is `Writable` (Writer.antt of sheet_writer): in range, and no table byte over 15
+-- which chips the writer takes is `Writable` (Writer.antt of sheet_written): in range, and no table byte over 15
 
 -- equal registers, colours and overlays
 pub record Same (a b : Chip) : Type 0 where

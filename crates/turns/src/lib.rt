@@ -24,7 +24,7 @@ pub fn expand(width: u8, v: u16) -> Text
     ensures { λ r. ⌜ Says r (expandText width v) ⌝ }
 {
     if width == 6 {
-        return ten(expand::expand6(v as u32));
+        return ten(expand_tables::expand6(v as u32));
     }
-    ten(expand::expand8(v as u32))
+    ten(expand_tables::expand8(v as u32))
 }

@@ -3,8 +3,9 @@ use mathlib.Core.Path.{_≡_}
 use mathlib.Core.List.{List}
 use Rattle.vocabulary.specs.Refusal.{Row, order, due, refusalOf}
 use Rattle.vocabulary.specs.Outcome.{Outcome}
+use Rattle.vocabulary.specs.Judged.{None}
 use Rattle.vocabulary.specs.Face.{calledBy}
-use Rattle.vocabulary.proofs.Refusal.{None, none-exactly}
+use Rattle.vocabulary.proofs.Refusal.{none-exactly}
 use Rattle.vocabulary.proofs.Outcome.{accepted-does, accepted-none, refused-left, left-holds}
 
 module _ {C K : Type 0} (refusals : K → C → List Row) (does : K → C → Outcome C) (k : K) (c : C) where

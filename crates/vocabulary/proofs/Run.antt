@@ -1,7 +1,7 @@
 -- Laws of runs, for any chip and any calls. Assumes nothing.
 use mathlib.Core.Path.{_≡_, refl, sym, ap, _∙_}
 use mathlib.Core.Bool.{Bool, true, false}
-use mathlib.Core.List.{List, [], _∷_, _++_, map, append-assoc}
+use mathlib.Core.List.{List, [], _∷_, _++_, append-assoc}
 use Rattle.vocabulary.specs.Outcome.{Outcome}
 use Rattle.vocabulary.specs.Reply.{Reply, telling}
 use Rattle.vocabulary.specs.Run.{besides, after, gathered, Along, gatheredBesides}
@@ -112,15 +112,3 @@ module _ {C K : Type 0} (step : K → C → Outcome C) (kind : K → Bool)
 
   pub unnoticed : Unnoticed step kind
   unnoticed = record { hears = λ ks ls c same. gives-alike ks ls c same (replyTo step); ends = ends-alike }
-
--- ---- Calls of one type made as calls of another
-module _ {C J K : Type 0} (step : K → C → Outcome C) (f : J → K) where
-  pub after-map : (js : List J) (c : C) → after step (map f js) c ≡ after (λ (j : J) (d : C). step (f j) d) js c
-  unfolding after
-  after-map [] c = refl
-  after-map (j ∷ js) c = after-map js (step (f j) c .left)
-
-  pub replies-map : (js : List J) (c : C) → replies step (map f js) c ≡ replies (λ (j : J) (d : C). step (f j) d) js c
-  unfolding gathered
-  replies-map [] c = refl
-  replies-map (j ∷ js) c = ap (λ (l : List Reply). telling (step (f j) c) ∷ l) (replies-map js (step (f j) c .left))

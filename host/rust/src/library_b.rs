@@ -3,16 +3,36 @@ use crate::answer::{colour, Answer, DONE};
 use crate::chip_b::{Call, Chip, State};
 
 #[repr(C)]
-struct LibState {
+struct LibPort {
     address: u16,
     counter: u8,
     red: u8,
     green: u8,
+}
+
+#[repr(C)]
+struct LibControl {
     command: u8,
     readmode: u8,
+}
+
+#[repr(C)]
+struct LibIdent {
     revision: u8,
     board: u8,
+}
+
+#[repr(C)]
+struct LibFifo {
     waiting: u8,
+}
+
+#[repr(C)]
+struct LibState {
+    port: LibPort,
+    control: LibControl,
+    ident: LibIdent,
+    fifo: LibFifo,
 }
 
 #[repr(C)]
@@ -43,12 +63,28 @@ extern "C" {
 
 fn state_in(s: State) -> LibState {
     let State { address, counter, red, green, command, read_mode, revision, board, waiting } = s;
-    LibState { address, counter, red, green, command, readmode: read_mode, revision, board, waiting }
+    LibState {
+        port: LibPort { address, counter, red, green },
+        control: LibControl { command, readmode: read_mode },
+        ident: LibIdent { revision, board },
+        fifo: LibFifo { waiting },
+    }
 }
 
 fn state_out(s: LibState) -> State {
-    let LibState { address, counter, red, green, command, readmode, revision, board, waiting } = s;
-    State { address, counter, red, green, command, read_mode: readmode, revision, board, waiting }
+    let LibState { port, control, ident, fifo } = s;
+    let LibPort { address, counter, red, green } = port;
+    State {
+        address,
+        counter,
+        red,
+        green,
+        command: control.command,
+        read_mode: control.readmode,
+        revision: ident.revision,
+        board: ident.board,
+        waiting: fifo.waiting,
+    }
 }
 
 /// The call, made on the chip by the library.

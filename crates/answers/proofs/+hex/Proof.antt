@@ -2,7 +2,7 @@ use Prim.Native.Nat.{ℕ, _<_}
 use native.Mathlib.Omega.{arith}
 use borrow.Fn.Kinds.{In}
 use borrow.Fn.PlainCycle.{Measures, is, falls, and}
-use Rattle.sheet.proofs.digit.Reads as digit
+use Rattle.hex.proofs.digit.Reads as digit
 use Rattle.answers.proofs.Adds.{adds-none, adds-more, hex-none, hex-more}
 use Rattle.answers.proofs.put.Reads as put
 use Rattle.answers.proofs.hex.Reads as hex

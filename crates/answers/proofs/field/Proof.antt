@@ -1,5 +1,5 @@
 use native.Mathlib.Omega.{arith}
-use Rattle.sheet.proofs.Texts.{length-hex}
+use Rattle.hex.proofs.Number.{length-hex}
 use Rattle.answers.proofs.Adds.{says-line}
 use borrow.Author.Needs.{needs}
 use Rattle.answers.proofs.field.Statement.{statement}

@@ -3,12 +3,6 @@ use borrow.Author.Needs.{needs}
 use Rattle.calls_count.proofs.count_of.Statement.{statement}
 use Rattle.calls_count.proofs.count_of.Tie as tie
 
-returns : tie.Need-returns
-returns c =
-    count-all (c .before .before .before .before .before .args .kept .now)
-    (c .before .before .before .before .before .pre) (c .before .before .table-count .ensures .0)
-    (c .table-count2 .ensures .0)
-
 pub count-of-spec : {M : Type 1} → statement M
 count-of-spec =
     tie.close
@@ -16,11 +10,13 @@ count-of-spec =
     (λ c. search needs)
     (λ c. search needs)
     (λ c. search needs)
-    (λ c κs. search needs)
     (λ c. search needs)
     (λ c. search needs)
     (λ c. search needs)
     (λ c. search needs)
-    (λ c κs. search needs)
     (λ c. search needs)
-    returns)
+    (λ c. search needs)
+    (λ c. search needs)
+    (λ c.
+    let s = c .before .before .before .before .before in
+    count-all (s .args .kept .now) (s .pre) (c .before .before .table-count .ensures .0) (c .table-count2 .ensures .0)))

@@ -1,5 +1,5 @@
 use Rattle.hd153108_shown.proofs.Rule.{told-as, inside-as}
-use Rattle.hd153108_pixel.proofs.Bytes.{shown-as}
+use Rattle.vocabulary.proofs.Pixel.{shown-as}
 use borrow.Author.Needs.{needs}
 use Rattle.hd153108_pixel.proofs.zk_a_pixel.Statement.{statement}
 use Rattle.hd153108_pixel.proofs.zk_a_pixel.Tie as tie
@@ -15,9 +15,9 @@ zk-a-pixel-spec =
     (λ c κs. inside-as (c .before .before .before .picked .ensures) (c .before .p2 .given .1))
     (λ c. search needs)
     (λ c.
-    shown-as (c .shown-at .ensures)
+    shown-as _ (c .shown-at .ensures)
     (told-as (c .before .before .before .before .picked .ensures) (c .before .before .p .given .1)))
     (λ c.
-    shown-as (c .shown-at2 .ensures)
+    shown-as _ (c .shown-at2 .ensures)
     (told-as (c .before .before .before .before .picked .ensures) (c .before .before .p2 .given .1)))
     (λ c. told-as (c .before .before .before .picked .ensures) (c .before .p3 .given .1)))

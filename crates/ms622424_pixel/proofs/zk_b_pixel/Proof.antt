@@ -1,26 +1,28 @@
 use mathlib.Core.Path.{refl}
 use native.Mathlib.Omega.{arith}
 use Rattle.vocabulary.specs.Component.{red, green, blue}
-use Rattle.ms622424.specs.Ms622424.{InRange, pixelByte}
+use Rattle.vocabulary.proofs.Pixel.{shown-as}
+use Rattle.ms622424.specs.Ms622424.{Chip, InRange, pixelByte}
 use Rattle.ms622424.proofs.InRange.{past, tried}
 use Rattle.ms622424.proofs.Pixel.{pixel-outside, pixel-does}
 use Rattle.ms622424_places.specs.Places.{handed, view}
-use Rattle.ms622424_pixel.proofs.Outputs.{shows-none}
 use borrow.Author.Needs.{needs}
 use Rattle.ms622424_pixel.proofs.zk_b_pixel.Statement.{statement}
 use Rattle.ms622424_pixel.proofs.zk_b_pixel.Tie as tie
 
--- what is known past what is tried first
-known : (c : tie.Else1)
-    → let a = c .before .before .before .before .args in InRange (view (handed (a .s) (a .queue .now) (a .map .now)))
+-- the chip as the call finds it, and what is known past what is tried first
+abbrev given : tie.Start → Chip
+given c = view (handed (c .args .s) (c .args .queue .now) (c .args .map .now))
+
+known : (c : tie.Else1) → InRange (given (c .before .before .before .before))
 known c = past _ (c .before .standing-tables .ensures) (c .if1 .left)
 
 returns-2 : tie.Need-returns-2
-returns-2 c = shows-none _ _ _ (c .refused2 .ensures) (pixel-outside _ _ _ (known (c .before .before)) (λ m w. omega arith))
+returns-2 c = shown-as _ (c .refused2 .ensures) (pixel-outside _ _ _ (known (c .before .before)) (λ m w. omega arith))
 
 returns-3 : tie.Need-returns-3
 returns-3 c =
-    shows-none _ _ _ (c .refused3 .ensures) (pixel-outside _ _ _ (known (c .before .before .before)) (λ m w. omega arith))
+    shown-as _ (c .refused3 .ensures) (pixel-outside _ _ _ (known (c .before .before .before)) (λ m w. omega arith))
 
 -- the three reads of the map
 reads-red : tie.Need-shared-slice-read-t16
@@ -51,7 +53,7 @@ zk-b-pixel-spec =
     (tie.spec
     (λ c κs. search needs)
     (λ c κs. search needs)
-    (λ c. search (shows-none, tried, needs))
+    (λ c. search (shown-as, tried, needs))
     (λ c κs. search needs)
     returns-2
     (λ c κs. search needs)

@@ -1,8 +1,8 @@
 use Prim.Native.Nat.{_-_, _≤_}
-use mathlib.Core.Path.{_≡_, refl}
+use mathlib.Core.Path.{_≡_}
 use mathlib.Core.List.{_++_}
 use native.Mathlib.Omega.{arith}
-use lib.ListN.{length, drop, length-set}
+use lib.ListN.{length, drop}
 use Rattle.ms622424_queue.proofs.Moved.{zeroed, clear-none, clear-next}
 use borrow.Author.Needs.{needs}
 use Rattle.ms622424_queue.proofs.clear.Statement.{statement}

@@ -1,7 +1,7 @@
 use Prim.Native.Nat.{_-_, _≤_}
-use mathlib.Core.Path.{_≡_, refl}
+use mathlib.Core.Path.{_≡_}
 use native.Mathlib.Omega.{arith}
-use lib.ListN.{length, drop, length-set, length-drop}
+use lib.ListN.{length, drop, length-set}
 use Rattle.ms622424_queue.proofs.Moved.{front, move-next}
 use borrow.Author.Needs.{needs}
 use Rattle.ms622424_queue.proofs.move_down.Statement.{statement}

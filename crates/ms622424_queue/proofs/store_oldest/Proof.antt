@@ -32,7 +32,8 @@ loop-again c =
     let a = at .before .before .before .args in (
       omega arith,
       omega arith,
-      stored-next (a .queue .now) _ (at .loop .moved) (c .before .before .store .ensures) (at .loop .inv .2) (omega arith),
+      stored-next (a .queue .now) _ (at .loop .moved) (c .before .before .store .ensures) (at .loop .inv .2)
+          (omega arith),
     )
 
 pub store-oldest-spec : {M : Type 1} → statement M

@@ -1,5 +1,6 @@
 use native.Mathlib.Omega.{arith}
-use Rattle.ms622424.specs.Ms622424.{InRange, registerAt, readable, answers, bufferByte, bufferStepped, stepped}
+use Rattle.vocabulary.specs.Component.{componentAt}
+use Rattle.ms622424.specs.Ms622424.{Chip, InRange, registerAt, readable, answers, bufferByte, bufferStepped, stepped}
 use Rattle.ms622424.proofs.InRange.{past, tried}
 use Rattle.ms622424_places.specs.Places.{handed, view}
 use Rattle.ms622424_places.proofs.Does.{refuses}
@@ -8,9 +9,11 @@ use borrow.Author.Needs.{needs}
 use Rattle.ms622424_read.proofs.zk_b_read.Statement.{statement}
 use Rattle.ms622424_read.proofs.zk_b_read.Tie as tie
 
--- what is known past what is tried first
-known : (c : tie.Else1)
-    → let a = c .before .before .before .before .args in InRange (view (handed (a .s) (a .queue .now) (a .map .now)))
+-- the chip as the call finds it, and what is known past what is tried first
+abbrev given : tie.Start → Chip
+given c = view (handed (c .args .s) (c .args .queue .now) (c .args .map .now))
+
+known : (c : tie.Else1) → InRange (given (c .before .before .before .before))
 known c = past _ (c .before .standing-tables .ensures) (c .if1 .left)
 
 read-palette-requires : tie.Need-read-palette-requires
@@ -18,7 +21,7 @@ read-palette-requires c κs =
     let h = known (c .before .before .before .before .before) in (h .size, h .address, h .counter)
 
 pub zk-b-read-spec : {M : Type 1} → statement M
-unfolding registerAt readable answers bufferByte bufferStepped stepped
+unfolding registerAt readable answers bufferByte bufferStepped stepped componentAt
 zk-b-read-spec =
     tie.close
     (tie.spec

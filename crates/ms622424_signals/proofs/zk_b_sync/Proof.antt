@@ -21,15 +21,17 @@ returns-2 c m =
 piped-requires : tie.Need-piped-requires
 piped-requires c κs =
     let past = c .before in
+    let e = past .before .standing-queue .ensures in
     let a = past .before .before .before .args in
-    let r = signals-range 0 (view (handed (a .s) (a .queue .now) [])) (past .before .standing-queue .ensures) (past .if1 .left) in
+    let r = signals-range 0 (view (handed (a .s) (a .queue .now) [])) e (past .if1 .left) in
     (omega arith, omega arith)
 
 returns-3 : tie.Need-returns-3
 returns-3 c m =
     let past = c .before .before .before in
+    let e = past .before .standing-queue .ensures in
     accepts _ _ m _ _ _ _ (c .accepted .ensures)
-    (signals-does _ _ (past .before .standing-queue .ensures) (past .if1 .left) (omega arith) (c .before .piped .ensures))
+    (signals-does _ _ e (past .if1 .left) (omega arith) (c .before .piped .ensures))
 
 pub zk-b-sync-spec : {M : Type 1} → statement M
 zk-b-sync-spec =

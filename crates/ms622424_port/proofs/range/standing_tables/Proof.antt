@@ -1,4 +1,3 @@
-use mathlib.Core.Path.{refl, _∙_}
 use borrow.Author.Tests.{eq-eqb}
 use Rattle.vocabulary.specs.Range.{meets, fails}
 use Rattle.vocabulary.proofs.Range.{not-fails}

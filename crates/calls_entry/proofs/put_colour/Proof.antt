@@ -1,0 +1,28 @@
+use native.Mathlib.Omega.{arith}
+use lib.ListN.{length-set}
+use Rattle.calls.proofs.Stored.{colour-stored}
+use borrow.Author.Needs.{needs}
+use Rattle.calls_entry.proofs.put_colour.Statement.{statement}
+use Rattle.calls_entry.proofs.put_colour.Tie as tie
+
+pub put-colour-spec : {M : Type 1} → statement M
+put-colour-spec =
+    tie.close
+    (tie.spec
+    (λ c. search needs)
+    (λ c. search needs)
+    (λ c. search needs)
+    (λ c. search needs)
+    (λ c. search needs)
+    (λ c. simp length-set (omega arith))
+    (λ c. search needs)
+    (λ c. simp length-set (omega arith))
+    (λ c. search needs)
+    (λ c. simp length-set (omega arith))
+    (λ c. search needs)
+    (λ c. simp length-set (omega arith))
+    (λ c. search needs)
+    (λ c. simp length-set (omega arith))
+    (λ c. search needs)
+    (λ c. search needs)
+    (λ c. search (colour-stored, needs)))

@@ -1,0 +1,32 @@
+use Prim.Native.Nat.{_-_, _≤_}
+use mathlib.Core.Bool.{false}
+use lib.ListN.{length}
+use Rattle.sheet.proofs.Going.{Going, begins}
+use Rattle.calls.proofs.Turn.{left, last-entry, entry-fits, next-entry}
+use borrow.Author.Needs.{needs}
+use Rattle.calls_table.proofs.table_calls.Statement.{statement}
+use Rattle.calls_table.proofs.table_calls.Tie as tie
+
+abbrev Inv-loop : tie.InvT-loop
+Inv-loop kept select out₀ entry₀ at₀ follows₀ out entry at follows =
+    (entry ≤ length kept) × Going (left select kept 0 false) out₀ out at (left select kept entry follows)
+
+abbrev μ-loop : tie.MeasureT-loop
+μ-loop kept select out₀ entry₀ at₀ follows₀ out entry at follows = length kept - entry
+
+pub table-calls-spec : {M : Type 1} → statement M
+table-calls-spec =
+    tie.close
+    (tie.spec
+    Inv-loop
+    μ-loop
+    (λ c. search (begins, needs))
+    (λ c. search needs)
+    (λ c. search needs)
+    (λ c. search needs)
+    (λ c κs. search (entry-fits, needs))
+    (λ c. search needs)
+    (λ c. search needs)
+    (λ c. search (next-entry, needs))
+    (λ c. search needs)
+    (λ c. search (last-entry, needs)))

@@ -1,7 +1,0 @@
-pub mod Edges
-pub mod Judged
-pub mod Determined
-pub mod Kept
-pub mod MovesA
-pub mod MovesB
-pub mod MovesC

@@ -1,0 +1,32 @@
+// The component expanders for C: the answer in one number.
+//
+// Document 01, "Chip C", decides; the answers are `expansion` of expand's specs/Expand.antt, as the vocabulary tells
+// them. Not modelled: as in expand.
+ghost use mathlib.Core.Path.{_≡_};
+ghost use Rattle.vocabulary.specs.Reply.{decoded, telling};
+ghost use Rattle.expand.specs.Expand.{expansion, meaning};
+use expand::Expanded;
+
+// The number that tells C an answer.
+fn told(e: Expanded) -> u64
+    ensures { λ r. ⌜ decoded r ≡ telling (meaning e) ⌝ }
+{
+    match e {
+        Expanded::Ten(t) => vocabulary::packed(0, t, 0, 0),
+        Expanded::Refused => vocabulary::packed(9, 0, 0, 0),
+    }
+}
+
+#[no_mangle]
+pub extern "C" fn zk_expand8(v: u32) -> u64
+    ensures { λ r. ⌜ decoded r ≡ telling (expansion 8 v) ⌝ }
+{
+    told(expand_tables::expand8(v))
+}
+
+#[no_mangle]
+pub extern "C" fn zk_expand6(v: u32) -> u64
+    ensures { λ r. ⌜ decoded r ≡ telling (expansion 6 v) ⌝ }
+{
+    told(expand_tables::expand6(v))
+}

@@ -1,0 +1,20 @@
+use Rattle.hex.proofs.Digits.{value-before, value-low, value-between, value-high, value-behind}
+use borrow.Author.Needs.{needs}
+use Rattle.hex.proofs.nibble.Statement.{statement}
+use Rattle.hex.proofs.nibble.Tie as tie
+
+ruleset values = (value-before, value-low, value-between, value-high, value-behind, needs)
+
+pub nibble-spec : {M : Type 1} → statement M
+nibble-spec =
+    tie.close
+    (tie.spec
+    (λ c. search values)
+    (λ c. search needs)
+    (λ c. search needs)
+    (λ c. search values)
+    (λ c. search values)
+    (λ c. search needs)
+    (λ c. search needs)
+    (λ c. search values)
+    (λ c. search values))

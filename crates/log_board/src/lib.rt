@@ -1,0 +1,52 @@
+// The board's own lines of a port log: the expander, the sheet and the choice of a chip; or a bad line.
+//
+// The replay's line forms decide; they are `boardForms` of log's specs/Log.antt. Not modelled: as in log.
+ghost use mathlib.Core.Path.{_≡_};
+ghost use Rattle.log.specs.Log.{said, boardForms, choices, expands};
+use log::Chip;
+use log::Line;
+
+// An expansion, of a width that the expander has.
+fn expansion(width: u8, v: u16) -> Line
+    ensures { λ r. ⌜ r ≡ expands width v ⌝ }
+{
+    if width == 6 {
+        return Line::Expand(width, v);
+    }
+    if width == 8 {
+        return Line::Expand(width, v);
+    }
+    Line::Bad
+}
+
+// A line that chooses a chip, or a bad one.
+fn choice(t: &[u8]) -> Line
+    ensures { λ r. ⌜ r ≡ said choices (now (t .entry)) ⌝ }
+{
+    if log_pattern::fits(b"chip=153108", t) {
+        return Line::Choose(Chip::ChipA);
+    }
+    if log_pattern::fits(b"chip=622424", t) {
+        return Line::Choose(Chip::ChipB);
+    }
+    if log_pattern::fits(b"chip=640", t) {
+        return Line::Choose(Chip::ChipC);
+    }
+    Line::Bad
+}
+
+// A line that makes no call on a chip, or a bad one.
+pub fn board_line(t: &[u8]) -> Line
+    ensures { λ r. ⌜ r ≡ said boardForms (now (t .entry)) ⌝ }
+{
+    if log_pattern::fits(b"expand=#####", t) {
+        return expansion(
+            hex_number::spelt_byte(t, 7, 1),
+            hex_number::spelt_word(t, 8, 4),
+        );
+    }
+    if log_pattern::fits(b"sheet", t) {
+        return Line::Sheet;
+    }
+    choice(t)
+}

@@ -1,5 +1,0 @@
-// The MS622424's queue can't be seen: whenever its entries move, what the chip shows and answers is as if each
-// completed colour had been written into the map at once. A theorem alone, over the definitions that the chip's calls
-// promise. What decides: 004, "Write FIFO", and document 01, "Chip B". Not modelled: anyone else who writes the map.
-// specs/Unseen.antt is the statement, proofs/Unseen.antt the theorem; proofs/Premises.antt has runs that meet its
-// premises, and proofs/Kept.antt shows that a chip in range stays in range.

@@ -1,0 +1,3 @@
+pub mod Size
+pub mod Values
+pub mod Round

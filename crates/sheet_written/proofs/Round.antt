@@ -1,0 +1,100 @@
+-- Reading what the writer wrote gives what was written. Assumes nothing.
+use Prim.Native.Nat.{ℕ, zero, suc, _+_, _≤_}
+use mathlib.Core.Path.{_≡_, refl}
+use mathlib.Core.Bool.{Bool, true, false}
+use mathlib.Core.List.{List, [], _∷_, _++_, map, append-nil}
+use native.Mathlib.Omega.{arith}
+use lib.ListN.{length, take, drop}
+use lib.Seq.{drop-append-seam, take-append-seam}
+use borrow.Author.Tests.{eq-eqb}
+use Rattle.vocabulary.specs.Choice.{pick}
+use Rattle.vocabulary.specs.Refusal.{_when_, lentLength, outOfRange, overFifteen, shortBuffer, refusalOf}
+use Rattle.vocabulary.specs.Outcome.{Outcome, accepting, answered, answeredAt}
+use Rattle.vocabulary.proofs.Range.{neither}
+use Rattle.vocabulary.proofs.Outcome.{accepted-does}
+use Rattle.hd153108.specs.Hd153108.{Chip}
+use Rattle.sheet.specs.declared.Line.the-variants.{Has}
+use Rattle.sheet.specs.Sheet.{keyAt, lineText, good, readFrom, sheetOf}
+use Rattle.sheet.specs.Sheet.{coloursIn, values, chipLines, textFrom, textOf, pasted, overFifteenIn, writeRefusals}
+use Rattle.sheet.specs.Sheet.{write}
+use Rattle.sheet.proofs.Texts.{width-entry, takes-entry}
+use Rattle.sheet.proofs.Lines.{line-there}
+use Rattle.sheet.proofs.Good.{Lawful}
+use Rattle.sheet_written.specs.Writer.{Writable}
+use Rattle.sheet_written.proofs.Values.{low-first, length-values, writable}
+
+-- lawful lines that are all there, key after key
+back : (vs : List ℕ) (k n : ℕ) → Lawful k (map Has vs)
+    → readFrom (length vs) k n (textFrom k (map Has vs)) ≡ good (map Has vs)
+unfolding readFrom textFrom
+back [] k n g = refl
+back (v ∷ vs) k n g =
+    rw (
+      line-there (keyAt k) v (textFrom (k + 1) (map Has vs)) (g .0) (g .1),
+      drop-append-seam (lineText (keyAt k) v) (textFrom (k + 1) (map Has vs)),
+      back vs (k + 1) (n + 1) (g .2),
+    )
+
+-- a table's colours, with no byte over 15, and lines behind them
+lawful-colours : (t : List ℕ) (k : ℕ) (rest : List ℕ) → 5 ≤ k → overFifteenIn t ≡ false
+    → Lawful (k + length (coloursIn t)) (map Has rest) → Lawful k (map Has (coloursIn t ++ rest))
+unfolding coloursIn
+lawful-colours [] k rest h e g = let s : k + 0 ≡ k = omega arith in rw s at g
+lawful-colours (r ∷ []) k rest h e g = let s : k + 0 ≡ k = omega arith in rw s at g
+lawful-colours (r ∷ g ∷ []) k rest h e l = let s : k + 0 ≡ k = omega arith in rw s at l
+lawful-colours (r ∷ g ∷ b ∷ t) k rest h e l =
+    let one = low-first r (g ∷ b ∷ t) e in
+    let two = low-first g (b ∷ t) (one .1) in
+    let three = low-first b t (two .1) in
+    let s : k + suc (length (coloursIn t)) ≡ k + 1 + length (coloursIn t) = omega arith in (
+      rw (width-entry k h) (omega arith),
+      takes-entry k _ h,
+      lawful-colours t (k + 1) rest (omega arith) (three .1) (rw s at l),
+    )
+
+-- so a chip's lines are lawful
+chip-lawful : (a : Chip) → Writable a → Lawful 0 (chipLines a)
+unfolding values keyAt pick
+chip-lawful a w =
+    let s = w .state in
+    let os = coloursIn (a .overlays) in
+    let cs = coloursIn (a .colours) in
+    let colours = lawful-colours (a .colours) (5 + length os) [] (omega arith) (w .low-colours) tt in
+    let entries = lawful-colours (a .overlays) 5 cs (omega arith) (w .low-overlays) (rw (append-nil cs) at colours) in
+    let reserved = eq-eqb _ _ (s .1 .1 .1 .1 .1 .1 .1 .0) in
+    (omega arith, refl, (omega arith, refl, (omega arith, refl, (omega arith, reserved, (omega arith, refl, entries)))))
+
+-- Law 4: reading what the writer wrote gives what was written, of any state and tables that it takes.
+pub round : (a : Chip) → Writable a → sheetOf (textOf a) ≡ good (chipLines a)
+round a w =
+    rw (length-values a (w .overlays) (w .colours)) at (back (values a) 0 1 (chip-lawful a w))
+
+-- the same of a call that was accepted: its count of bytes of the buffer, read
+four-clear : (p q r s : Bool)
+    → refusalOf ((lentLength when p) ∷ (outOfRange when q) ∷ (overFifteen when r) ∷ (shortBuffer when s) ∷ []) ≡ 0
+    → (p ≡ false) × (q ≡ false) × (r ≡ false)
+unfolding refusalOf
+four-clear true q r s e = absurd (let z : ⊥ = omega arith in z)
+four-clear false true r s e = absurd (let z : ⊥ = omega arith in z)
+four-clear false false true s e = absurd (let z : ⊥ = omega arith in z)
+four-clear false false false true e = absurd (let z : ⊥ = omega arith in z)
+four-clear false false false false e = (refl, refl, refl)
+
+accepted : {C : Type 0} (n : ℕ) (given : C) (done : Outcome C) → answered n given done .refusal ≡ 0 → n ≡ 0
+unfolding answeredAt
+accepted zero given done e = refl
+accepted (suc n) given done e = absurd (let z : ⊥ = omega arith in z)
+
+first-of : (out word : List ℕ) → take (length word) (pasted out 0 word) ≡ word
+unfolding pasted
+first-of out word = take-append-seam word (drop (0 + length word) out)
+
+pub write-round : (a : Chip) (out : List ℕ) → write a out .refusal ≡ 0
+    → sheetOf (take (write a out .count) (write a out .left)) ≡ good (chipLines a)
+unfolding write
+write-round a out e =
+    let n = accepted (refusalOf (writeRefusals a out)) out _ e in
+    let clear = four-clear _ _ _ _ n in
+    let low = neither (overFifteenIn (a .colours)) _ (clear .2) in
+    let is : write a out ≡ accepting 0 (length (textOf a)) (pasted out 0 (textOf a)) = accepted-does 0 out _ n in
+    rw (is, first-of out (textOf a)) (round a (writable a (clear .0) (clear .1) (low .0) (low .1)))

@@ -1,0 +1,12 @@
+pub mod Edges
+pub mod Determined
+pub mod CallsA
+pub mod CallsB
+pub mod CallsC
+pub mod Counts
+pub mod CallsSheet
+pub mod Kept
+pub mod MovesA
+pub mod MovesB
+pub mod MovesC
+pub mod Impostors

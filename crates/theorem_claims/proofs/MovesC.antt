@@ -1,0 +1,127 @@
+-- Chip C: an access of a port leaves the rest, and which reads move. Assumes nothing.
+use Prim.Native.Nat.{ℕ}
+use mathlib.Core.Path.{_≡_, refl, sym, ap, subst, _∙_}
+use mathlib.Core.List.{List}
+use native.Mathlib.Omega.{arith}
+use Rattle.vocabulary.proofs.Choice.{cases, picks-first, picks-second}
+use Rattle.vocabulary.proofs.Face.{called-holds}
+use Rattle.rgb640.specs.declared.State.{State}
+use Rattle.rgb640.specs.Rgb640.{Chip, chip, at, next, increments, Direction, writing, reading, state}
+use Rattle.rgb640.specs.Rgb640.{Transfer, threeBytes, follows, restarted, stepped, taken, paletteTaken, paletteTold}
+use Rattle.rgb640.specs.Rgb640.{fetchesNothing, fetchesEntry, Space, updateControl, paletteWrite, paletteRead}
+use Rattle.rgb640.specs.Rgb640.{nowhere, spaceOf, Register, indexLow, indexHigh, indexData, notServed, registerAt}
+use Rattle.rgb640.specs.Rgb640.{served, dataWritten, wrote, dataRead, told, answers, writes, reads, refusals, does, called}
+use Rattle.rgb640.proofs.Index.{space-holds}
+use Rattle.theorem_claims.specs.MovesC.{PlaceAlone, PaletteAlone, RegisterAlone, DataWriteLeaves}
+use Rattle.theorem_claims.specs.MovesC.{DataReadLeaves, WriteLeaves, ReadLeaves}
+
+-- ---- as it was
+kept-by-write : (r : Register) (c : Chip) → WriteLeaves r c c
+kept-by-write indexLow c = refl
+kept-by-write indexHigh c = refl
+kept-by-write indexData c = record { register = λ e. refl; elsewhere = λ e. refl }
+kept-by-write notServed c = refl
+
+kept-by-read : (r : Register) (c : Chip) → ReadLeaves r c c
+kept-by-read indexLow c = refl
+kept-by-read indexHigh c = refl
+kept-by-read indexData c = record { register = λ e. refl; elsewhere = refl }
+kept-by-read notServed c = refl
+
+-- ---- the order, and the fetch: index, place and fetched entry
+module _ (s : State) (t : List ℕ) where
+  abbrev Moves : State → Type 0
+  Moves n = PlaceAlone (chip s t) (chip n t)
+
+  fetch-leaves : (i p j : ℕ) → Moves (spaceOf j .onIndex t (at s i p))
+  unfolding updateControl paletteWrite paletteRead nowhere
+  fetch-leaves i p j =
+      space-holds j (λ (row : Space). Moves (row .onIndex t (at s i p))) (λ l. refl, (λ l. refl, (λ l. refl, tt)))
+      (λ out. refl)
+
+  stepped-leaves : (order : List Transfer) (d : Direction) (fetch : State → State)
+      → ((i p : ℕ) → Moves (fetch (at s i p))) → Moves (stepped order d fetch s)
+  unfolding stepped restarted
+  stepped-leaves order d fetch h =
+      cases (follows order (s .place))
+      (λ e. subst Moves (sym (picks-first _ _ e)) refl)
+      (λ e.
+      subst Moves (sym (picks-second _ _ e))
+      (cases (increments d (s .update))
+      (λ f. subst Moves (sym (picks-first _ _ f)) (h (next (s .index)) 0))
+      (λ f. subst Moves (sym (picks-second _ _ f)) refl)))
+
+-- ---- a write
+taken-leaves : (order : List Transfer) (b : ℕ) (c : Chip) → PaletteAlone c (taken order b c)
+unfolding taken
+taken-leaves order b c =
+    cases (follows order (c .state .place))
+    (λ e. subst (PaletteAlone c) (sym (picks-first _ _ e)) refl)
+    (λ e. subst (PaletteAlone c) (sym (picks-second _ _ e)) refl)
+
+-- what moves the place alone after the palette's part moved
+palette-after : (c d n : Chip) → PaletteAlone c d → PlaceAlone d n → PaletteAlone c n
+palette-after c d n e h =
+    let s = n .state in
+    let same : s .update ≡ c .state .update =
+    ap (λ (x : Chip). x .state .update) h ∙ ap (λ (x : Chip). x .state .update) e in
+    subst (λ (u : ℕ). n ≡ chip (state (s .index) (s .place) (s .red) (s .green) (s .fetched) u) (n .table)) same refl
+
+palette-leaves : (order : List Transfer) (b : ℕ) (c : Chip) → PaletteAlone c (paletteTaken order b c)
+unfolding paletteTaken
+palette-leaves order b c =
+    let n = taken order b c in
+    palette-after c n _ (taken-leaves order b c)
+    (stepped-leaves (n .state) (n .table) order writing (fetchesNothing (n .table)) (λ i p. refl))
+
+data-write-leaves : (b : ℕ) (c : Chip) → DataWriteLeaves c (dataWritten (spaceOf (c .state .index)) b c)
+unfolding updateControl paletteWrite paletteRead nowhere served
+data-write-leaves b c =
+    space-holds (c .state .index) (λ (row : Space). DataWriteLeaves c (dataWritten row b c)) (
+      λ l. record { register = λ e. refl; elsewhere = λ e. absurd (e (omega arith)) },
+      (
+        λ l. record { register = λ e. absurd (omega arith); elsewhere = λ e. palette-leaves threeBytes b c },
+        (λ l. record { register = λ e. refl; elsewhere = λ e. refl }, tt),
+      ),
+    )
+    (λ out. record { register = λ e. refl; elsewhere = λ e. refl })
+
+written-leaves : (r : Register) (b : ℕ) (c : Chip) → WriteLeaves r c (wrote r b c)
+unfolding wrote
+written-leaves indexLow b c = refl
+written-leaves indexHigh b c = fetch-leaves (c .state) (c .table) _ 0 _
+written-leaves indexData b c = data-write-leaves b c
+written-leaves notServed b c = refl
+
+pub write-leaves : (port b : ℕ) (c : Chip) → WriteLeaves (registerAt port) c (called (writes port b) c .left)
+write-leaves port b c =
+    let r = registerAt port in
+    called-holds refusals does (writes port b) c (WriteLeaves r c) (kept-by-write r c) (λ none. written-leaves r b c)
+
+-- ---- a read
+data-read-leaves : (c : Chip) → DataReadLeaves c (chip (dataRead (spaceOf (c .state .index)) c .1) (c .table))
+unfolding updateControl paletteWrite paletteRead nowhere served paletteTold
+data-read-leaves c =
+    let s = c .state in
+    let t = c .table in
+    let steps = stepped-leaves s t threeBytes reading (fetchesEntry t) (λ i p. refl) in
+    space-holds (s .index) (λ (row : Space). DataReadLeaves c (chip (dataRead row c .1) t)) (
+      λ l. record { register = λ e. refl; elsewhere = refl },
+      (
+        λ l. record { register = λ e. refl; elsewhere = refl },
+        (λ l. record { register = λ e. absurd (omega arith); elsewhere = steps }, tt),
+      ),
+    )
+    (λ out. record { register = λ e. refl; elsewhere = refl })
+
+answers-leave : (r : Register) (c : Chip) → ReadLeaves r c (answers r c .left)
+unfolding told
+answers-leave indexLow c = refl
+answers-leave indexHigh c = refl
+answers-leave indexData c = data-read-leaves c
+answers-leave notServed c = refl
+
+pub read-leaves : (port : ℕ) (c : Chip) → ReadLeaves (registerAt port) c (called (reads port) c .left)
+read-leaves port c =
+    let r = registerAt port in
+    called-holds refusals does (reads port) c (ReadLeaves r c) (kept-by-read r c) (λ none. answers-leave r c)

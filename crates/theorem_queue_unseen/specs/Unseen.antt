@@ -1,0 +1,92 @@
+-- THE QUEUE CAN'T BE SEEN: what demand 3 says, over the definitions that the MS622424's calls promise (Ms622424.antt)
+-- and over runs of any calls (Run.antt of the vocabulary).
+use Prim.Native.Nat.{ℕ, _+_, _*_}
+use mathlib.Core.Path.{_≡_}
+use mathlib.Core.Bool.{Bool, true, false, not, _&&_}
+use mathlib.Core.List.{List, [], _∷_}
+use lib.Dec.{eqb}
+use lib.ListN.{getD}
+use Rattle.vocabulary.specs.Choice.{pick}
+use Rattle.vocabulary.specs.Component.{Component, red, green, blue, colourWord}
+use Rattle.vocabulary.specs.Every.{every}
+use Rattle.vocabulary.specs.Run.{after, gathered, Along, Accepted, whereAccepted}
+use Rattle.ms622424.specs.declared.Port.{Port}
+use Rattle.ms622424.specs.Ms622424.{Chip, Entry, allStored, entryShown, gunShown}
+use Rattle.ms622424.specs.Ms622424.{Call, writes, reads, blanks, pixels, signals, resets, called}
+
+-- ---- A run without an accepted reset
+
+abbrev pub isReset : Call → Bool
+isReset (writes select byte) = false
+isReset (reads select) = false
+isReset (blanks slots) = false
+isReset (pixels mode word) = false
+isReset (signals s) = false
+isReset resets = true
+
+-- none of the calls is a reset that is accepted on the chip that it is made on
+abbrev pub NoReset : List Call → Chip → Type 0
+NoReset calls c = Along called (λ (k : Call) (d : Chip). ¬ ((isReset k ≡ true) × Accepted called k d)) calls c
+
+-- ---- Completed colours: by the chip before a call, the call and its acceptance
+
+-- a write to select 2 with the counter at blue completes the address, the buffer's two bytes and its own ..
+unfoldable pub completes : Call → Chip → List Entry
+completes (writes select byte) c =
+    pick (eqb select 2 && eqb (c .port .counter) 2)
+    (record { address = c .port .address; red = c .port .red; green = c .port .green; blue = byte } ∷ []) []
+completes (reads select) c = []
+completes (blanks slots) c = []
+completes (pixels mode word) c = []
+completes (signals s) c = []
+completes resets c = []
+
+-- .. if it is accepted; all of a run, in the order of its calls
+abbrev pub completedBy : Call → Chip → List Entry
+completedBy k c = whereAccepted called completes k c
+
+abbrev pub completedIn : List Call → Chip → List Entry
+completedIn calls c = gathered called completedBy calls c
+
+-- ---- The two maps
+
+-- the map with the waiting colours written into it, oldest first
+unfoldable pub settled : Chip → List ℕ
+settled c = allStored (c .waiting) (c .map)
+
+-- the starting map with every completed colour written at once
+unfoldable pub immediate : List Call → Chip → List ℕ
+immediate calls start = allStored (completedIn calls start) (start .map)
+
+-- ---- What a map shows and answers
+
+-- a pixel: one byte of the map for each gun
+unfoldable pub colourShown : ℕ → ℕ → List ℕ → ℕ
+colourShown mode word m =
+    colourWord (gunShown mode word m red) (gunShown mode word m green) (gunShown mode word m blue)
+
+-- no gun's byte is of an entry whose address waits (in mode 0 the guns read one entry, in the others one each)
+unfoldable pub ReadsNoWaiting : ℕ → ℕ → Chip → Type 0
+ReadsNoWaiting mode word c =
+    (k : Component) → every (λ (e : Entry). not (eqb (e .address) (entryShown mode word k))) (c .waiting) ≡ true
+
+-- the table's read: the component under address and counter
+unfoldable pub component : Port → List ℕ → ℕ
+component p m = getD m (3 * p .address + p .counter) 0
+
+-- ---- Demand 3
+
+-- of the chip now and the immediate map: the map with the waiting colours equals it; a pixel that reads no waiting
+-- address shows what it shows; a read of the table answers from it
+pub record Unseen (now : Chip) (m : List ℕ) : Type 0 where
+  pub map-settles : settled now ≡ m
+  pub pixel-shows : (mode word : ℕ) → Accepted called (pixels mode word) now → ReadsNoWaiting mode word now
+      → called (pixels mode word) now .value ≡ colourShown mode word m
+  pub read-answers : Accepted called (reads 2) now → called (reads 2) now .value ≡ component (now .port) m
+
+-- start just after an accepted reset, of any chip, and make any calls without another accepted reset
+abbrev pub QueueUnseen : Type 0
+QueueUnseen =
+    (before : Chip) (reset : Call) (calls : List Call) → isReset reset ≡ true → Accepted called reset before
+    → let start = called reset before .left in
+    NoReset calls start → Unseen (after called calls start) (immediate calls start)
