@@ -20,7 +20,7 @@ use Rattle.feed.proofs.Bytes.{fed-line, fed-part}
 use Rattle.feed_take.specs.declared.Fed.{Fed}
 use Rattle.feed_take.specs.Fed.{FedTook}
 
-module _ {r : Fed} {s : Step} {k : Heard} (t bytes : List ℕ) (h : Hold) (cs os queue map table page : List ℕ)
+module _ (r : Fed) {s : Step} {k : Heard} (t bytes : List ℕ) (h : Hold) (cs os queue map table page : List ℕ)
     (n : Hears k t h bytes) (e : r .step ≡ s) (l : r .len ≡ k .len) where
   pub fed-taken : r .taken ≡ k .taken → r .taken ≡ upTo t
   fed-taken g = g ∙ n .taken
