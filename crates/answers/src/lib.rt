@@ -1,8 +1,7 @@
 // An answer line of a replay: from a refusal, or what an accepted call tells, to bytes.
 //
 // The replay's answer lines decide; specs/Answers.antt says each, and `told` equals it for any number that the types
-// hold. No line has more than 14 bytes with its LF, so that a text of 16 holds each. Not modelled: a sheet's 265
-// lines.
+// hold. No line has more than 14 bytes with its LF, so that a text of 16 holds each. Not modelled: a sheet's 265 lines.
 ghost use mathlib.Core.Path.{_≡_};
 ghost use mathlib.Core.List.{[], _∷_, _++_};
 ghost use Prim.Native.Nat.{_+_, _%_, _<_};

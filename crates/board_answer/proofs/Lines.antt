@@ -15,8 +15,7 @@ use Rattle.board.specs.Board.{whole, chipTurn, sheetTurn, boardTurn, step, Step
 use Rattle.board.proofs.Steps.{took-text}
 use Rattle.board_answer.specs.Chosen.{chosenBoard}
 
-module _ {line : Line} {r : Step} (s : Board) (cs os queue map table page : List ℕ)
-    (cs' os' queue' map' table' page' : List ℕ) where
+module _ {line : Line} {r : Step} (s : Board) (cs os queue map table page cs' os' queue' map' table' page' : List ℕ) where
   pub line-calls : {call : Call} → line ≡ To call
       → ((p : List ℕ)
       → StepTook r cs' os' queue' map' table' p (chipTurn (s .chosen) call (whole s cs os queue map table p)))

@@ -1,7 +1,7 @@
 // Any log line on the board: its call made, and its whole answer.
 //
-// The replay's description decides; `answer` equals `boardTurn` of board's specs/Board.antt for any board, line,
-// tables and page. The tables and the page are lent. Not modelled: as there.
+// The replay's description decides; `answer` equals `boardTurn` of board's specs/Board.antt for any board, line, tables
+// and page. The tables and the page are lent. Not modelled: as there.
 use answers::Text;
 use board::Board;
 use board::Step;

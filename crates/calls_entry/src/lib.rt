@@ -1,7 +1,7 @@
 // One entry's calls into a buffer: its address write, unless it follows the entry before it, and its colour's three.
 //
-// Document 01, "The sheet and its calls", decides; the calls are `entryCalls` of calls' specs/Calls.antt. A call is
-// two bytes, select and byte; bytes past them keep their values. Not modelled: as in calls.
+// Document 01, "The sheet and its calls", decides; the calls are `entryCalls` of calls' specs/Calls.antt. A call is two
+// bytes, select and byte; bytes past them keep their values. Not modelled: as in calls.
 ghost use mathlib.Core.Path.{_≡_};
 ghost use mathlib.Core.List.{[], _∷_};
 ghost use Prim.Native.Nat.{_+_, _%_, _≤_, _<_};

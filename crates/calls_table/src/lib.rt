@@ -1,7 +1,7 @@
 // A table's calls into a buffer, entry by entry, from what the reader kept of the table.
 //
-// Document 01, "The sheet and its calls", decides; the calls are `tableCalls` of calls' specs/Calls.antt. Not
-// modelled: as in calls.
+// Document 01, "The sheet and its calls", decides; the calls are `tableCalls` of calls' specs/Calls.antt. Not modelled:
+// as in calls.
 ghost use mathlib.Core.Bool.{false};
 ghost use mathlib.Core.List.{map};
 ghost use Prim.Native.Nat.{_≤_};

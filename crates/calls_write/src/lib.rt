@@ -1,7 +1,7 @@
 // A good sheet's calls, written into a lent buffer from what the reader kept of the sheet.
 //
-// Document 01, "The sheet and its calls", decides; the list is `callsOf` of calls' specs/Calls.antt: the registers,
-// and the two tables of calls_table behind them. Bytes past the list keep their values. Not modelled: as in calls.
+// Document 01, "The sheet and its calls", decides; the list is `callsOf` of calls' specs/Calls.antt: the registers, and
+// the two tables of calls_table behind them. Bytes past the list keep their values. Not modelled: as in calls.
 ghost use mathlib.Core.Path.{_≡_};
 ghost use mathlib.Core.List.{[], _∷_, map};
 ghost use Prim.Native.Nat.{_≤_, _<_};

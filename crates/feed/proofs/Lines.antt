@@ -1,5 +1,5 @@
--- A log by lines: with room for 16 bytes, a line of any length and its LF are answered as the line that it is, since
--- no form has 16 bytes. Assumes nothing.
+-- A log by lines: with room for 16 bytes, a line of any length and its LF are answered as the line that it is, since no
+-- form has 16 bytes. Assumes nothing.
 use Prim.Native.Nat.{ℕ}
 use mathlib.Core.Path.{_≡_, refl, sym, ap, _∙_}
 use mathlib.Core.List.{List, [], _∷_, _++_, append-assoc}

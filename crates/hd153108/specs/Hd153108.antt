@@ -1,7 +1,7 @@
 -- The HD153108, chip A: source document 003, and document 01, "Chip A", where 003 leaves a choice ("ruling").
--- In 003's order: 1 Address Register, 2 Access to CLT/OLT, 3 Internal Registers, pixel selection (Table 4); then
--- reset, the ranges, when a call is refused, what the code answers; last the face, each call whole. A bit named bN in
--- 003 is line N here.
+-- In 003's order: 1 Address Register, 2 Access to CLT/OLT, 3 Internal Registers, pixel selection (Table 4); then reset,
+-- the ranges, when a call is refused, what the code answers; last the face, each call whole. A bit named bN in 003 is
+-- line N here.
 use Prim.Native.Nat.{ℕ, zero, suc, _+_, _-_, _*_, _/_, _%_, _<_}
 use mathlib.Core.Path.{_≡_}
 use mathlib.Core.Bool.{Bool, true, false}

@@ -1,7 +1,7 @@
 // The number that hex digits spell, from a place of a text on: of 32, 16 or 8 bits.
 //
-// The definition is `number` of hex's specs/Hex.antt; a byte that is no digit counts as 0, and so does a place past
-// the end. Not modelled: numbers of more than eight digits.
+// The definition is `number` of hex's specs/Hex.antt; a byte that is no digit counts as 0, and so does a place past the
+// end. Not modelled: numbers of more than eight digits.
 ghost use mathlib.Core.Path.{_≡_};
 ghost use Prim.Native.Nat.{_<_, _≤_};
 ghost use Rattle.hex.specs.Hex.{number};

@@ -1,5 +1,4 @@
--- A byte more in the hold, with room and without; and, with room for 16 bytes, what is held of a line. Assumes
--- nothing.
+-- A byte more in the hold, with room and without; and, with room for 16 bytes, what is held of a line. Assumes nothing.
 use Prim.Native.Nat.{ℕ, _+_, _≤_, _<_}
 use mathlib.Core.Path.{_≡_, refl, sym, ap, _∙_}
 use mathlib.Core.List.{List, [], _∷_, _++_, append-nil}

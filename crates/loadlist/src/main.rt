@@ -1,9 +1,9 @@
 // loadlist: one sheet on standard input, its calls on standard output.
 //
 // Document 01, "The sheet and its calls", decides. The first 4,096 bytes of the input decide: a good sheet has at most
-// 2,134 (proofs/Size.antt of crate sheet_written). Short reads are joined. It prints one call a line, `w`, select,
-// `=`, byte in hex; or the two lines `refused=8` and `line=`, with the number of the first bad or missing line. The
-// list is made by crate sheet_calls; its buffer holds the longest there is, 786 calls.
+// 2,134 (proofs/Size.antt of crate sheet_written). Short reads are joined. It prints one call a line, `w`, select, `=`,
+// byte in hex; or the two lines `refused=8` and `line=`, with the number of the first bad or missing line. The list is
+// made by crate sheet_calls; its buffer holds the longest there is, 786 calls.
 ghost use mathlib.Core.Path.{_≡_};
 ghost use mathlib.Core.List.{[], _∷_};
 ghost use Prim.Native.Nat.{_/_, _%_};

@@ -1,7 +1,7 @@
 // A pattern of a port log's line: whether a line has it.
 //
-// The replay's line forms decide; specs/Pattern.antt says what a pattern is. The forms, and what each says, are in
-// log. Not modelled: patterns of more than one length.
+// The replay's line forms decide; specs/Pattern.antt says what a pattern is. The forms, and what each says, are in log.
+// Not modelled: patterns of more than one length.
 ghost use mathlib.Core.Path.{_≡_};
 ghost use Rattle.log_pattern.specs.Pattern.{isDigit, stands as standsFor, fits as fitsPattern};
 

@@ -4,8 +4,8 @@
 // Source document 004 and document 01, "Chip B", decide; specs/Ms622424.antt says it, in 004's order, of the chip as
 // 004 describes it: registers, the waiting colours, the colour map. How a caller keeps a chip is said apart, in
 // ms622424_places. Above stand what the calls share, ms622424_port (ranges) and ms622424_queue (the lent places), and
-// a crate for each call. Not modelled: clocks, bus timing and the pipeline; the output that is held while the
-// processor has the map.
+// a crate for each call. Not modelled: clocks, bus timing and the pipeline; the output that is held while the processor
+// has the map.
 
 // What data accesses move: the address, the RGB counter, and the Color Buffer Register.
 #[repr(C)]

@@ -209,8 +209,7 @@ abbrev pub prefetched : List ℕ → State → State
 prefetched t s = spaceOf (s .index) .onIndex t s
 
 -- ---- What a write does
--- what a service makes of an access; what stands for one that is refused, here and below at `notServed`, is not
--- reached
+-- what a service makes of an access; what stands for one that is refused, here and below at `notServed`, is not reached
 unfoldable pub served : {A B : Type 0} → Service A → (A → B) → B → B
 served (serves f) effect unreached = effect f
 served against effect unreached = unreached

@@ -4,11 +4,14 @@
 // the refusal and the value in hex. A line of stdin is a letter, numbers of two or four (*) hex digits, each behind a
 // space, and a label where something is printed below it:
 //   # a label alone
-// t the lent table: 4i + 1 at its place i, so that entry e reads as 3e, 3e + 1 and 3e + 2 modulo 256, and most of its
-// numbers are beyond 1,023 n how many of its numbers are lent from here on* s the state: index*, place, register
-// 0x000E, fetched red*, green* and blue*; its latches are 5 and 6 w write: port, byte; r read: port; z reset: an
-// answer behind those of the same line . the end of a line of answers e an entry of the table*                     i
-// the index and the place f the fetched entry                          l the latches and register 0x000E
+//   t the lent table: 4i + 1 at its place i, so that entry e reads as 3e, 3e + 1 and 3e + 2 modulo 256, and most of its
+//     numbers are beyond 1,023
+//   n how many of its numbers are lent from here on*
+//   s the state: index*, place, register 0x000E, fetched red*, green* and blue*; its latches are 5 and 6
+//   w write: port, byte; r read: port; z reset: an answer behind those of the same line
+//   . the end of a line of answers
+//   e an entry of the table*                     i the index and the place
+//   f the fetched entry                          l the latches and register 0x000E
 mod print;
 
 use libc::STDIN_FILENO;

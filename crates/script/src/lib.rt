@@ -1,8 +1,8 @@
 // The lines of a program's list of calls, which it reads on standard input, and what it prints of them: what the three
 // programs of vectors share.
 //
-// A line's first byte says what is done. Its numbers stand at fixed places, in lower-case hex digits, and behind them
-// a label. What a line holds and where is said by the program that reads it. Of a line that is too short the missing
+// A line's first byte says what is done. Its numbers stand at fixed places, in lower-case hex digits, and behind them a
+// label. What a line holds and where is said by the program that reads it. Of a line that is too short the missing
 // digits are 0: a list is compared by what the program prints.
 ghost use Prim.Native.Nat.{_≤_, _<_};
 ghost use lib.ListN.{length};

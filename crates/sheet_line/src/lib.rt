@@ -1,8 +1,8 @@
 // A line of a sheet, read: whether a key's line stands at the start of a text, and with which value.
 //
 // Document 01, "The sheet and its calls", decides; the answer is `lineOf` of sheet's specs/Sheet.antt. The bytes where
-// the key's digits stand are read as a number, and the line is there where the text starts with that number's line.
-// Not modelled: as in sheet.
+// the key's digits stand are read as a number, and the line is there where the text starts with that number's line. Not
+// modelled: as in sheet.
 ghost use mathlib.Core.Path.{_≡_};
 ghost use Prim.Native.Nat.{_+_, _<_};
 ghost use lib.ListN.{length};

@@ -1,7 +1,7 @@
 // The lines of a sheet into a buffer: all 265, in the order of their keys.
 //
-// Document 01, "The sheet and its calls", decides; the text is `textOf` of sheet's specs/Sheet.antt. Bytes past it
-// keep their values. Not modelled: as in sheet_writer.
+// Document 01, "The sheet and its calls", decides; the text is `textOf` of sheet's specs/Sheet.antt. Bytes past it keep
+// their values. Not modelled: as in sheet_writer.
 ghost use mathlib.Core.Path.{_≡_};
 ghost use Prim.Native.Nat.{_+_, _≤_};
 ghost use lib.ListN.{length};

@@ -1,7 +1,7 @@
 // The values of a sheet, from chip A's state and tables, key by key; and whether the tables have a byte over 15.
 //
-// Document 01, "The sheet and its calls", decides; the values are `values` of sheet's specs/Sheet.antt. The caller
-// owns state and tables. Not modelled: as in sheet_writer.
+// Document 01, "The sheet and its calls", decides; the values are `values` of sheet's specs/Sheet.antt. The caller owns
+// state and tables. Not modelled: as in sheet_writer.
 ghost use mathlib.Core.Path.{_≡_};
 ghost use mathlib.Core.Bool.{false};
 ghost use Prim.Native.Nat.{_+_, _*_, _≤_, _<_};

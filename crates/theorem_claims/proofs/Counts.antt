@@ -54,8 +54,7 @@ pub calls-count : (text out : List ℕ) → Counts (sheetToCalls text out)
 unfolding sheetToCalls callsFor
 calls-count text out = reading-counts text out (sheetOf text) refl
 
--- a line is told for a malformed sheet alone (`malformed-eight` of calls: which one); a good sheet's refusal tells
--- none
+-- a line is told for a malformed sheet alone (`malformed-eight` of calls: which one); a good sheet's refusal tells none
 good-line : (n : ℕ) (out : List ℕ) (done : Outcome (List ℕ)) → done .line ≡ 0 → answeredAt n 0 out done .line ≡ 0
 unfolding answeredAt
 good-line zero out done e = e

@@ -20,11 +20,8 @@ heard c = asked c .before .before
 returns : tie.Need-returns
 returns c =
     let h = heard c .before .hear .ensures in
-    let r = c .after .ensures in (
-      r .2 ∙ h .taken,
-      took-line (c .after .result) _ _ _ _ _ _ _ _ _ h (r .0) (r .1) _ (asked c .if1 .taken)
-          (answered c .answer .ensures),
-    )
+    let r = c .after .ensures in
+    (r .2 ∙ h .taken, took-line (c .after .result) _ _ _ _ _ _ _ _ _ h (r .0) (r .1) _ (asked c .if1 .taken) (answered c .answer .ensures))
 
 pub take-spec : {M : Type 1} → statement M
 take-spec =
