@@ -1,7 +1,7 @@
 // How a caller keeps an MS622424: a state by value, 64 lent places for the queue and the lent colour map.
 //
 // specs/Places.antt is the one file that says which chip they are, and what a call promises of them; document 01,
-// "Chip B", decides ("the caller holds them"). The oldest entry is in the first place, one number an entry, and unused
+// "Chip B", decides. The oldest entry is in the first place, one number an entry, and unused
 // places are zero. Not modelled: as in ms622424.
 use ms622424::Control;
 use ms622424::Ident;
