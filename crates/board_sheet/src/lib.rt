@@ -49,6 +49,7 @@ fn list<'a>(board: Board, colours: &'a [u8], overlays: &'a [u8], page: &mut [u8]
         → StepTook r (now (colours .entry)) (now (overlays .entry)) queue map table (now (page .exit))
         (sheetTurn chipA
         (whole board (now (colours .entry)) (now (overlays .entry)) queue map table (now (page .entry))))) ⌝ }
+    ensures { λ r. ⌜ r .board ≡ board ⌝ }
 {
     told(
         board,
@@ -62,6 +63,7 @@ pub fn sheet<'a>(board: Board, colours: &'a [u8], overlays: &'a [u8], page: &mut
         → StepTook r (now (colours .entry)) (now (overlays .entry)) queue map table (now (page .exit))
         (sheetTurn (board .chosen)
         (whole board (now (colours .entry)) (now (overlays .entry)) queue map table (now (page .entry))))) ⌝ }
+    ensures { λ r. ⌜ r .board ≡ board ⌝ }
 {
     let chosen = board.chosen;
     match chosen {

@@ -22,6 +22,6 @@ pub extern "C" fn zk_b_blank(s: State, slots: u32, queue: &mut [u64], map: &mut 
     if 65535 < slots {
         return refused(9, s);
     }
-    let m = ms622424_queue::transfer(s, slots, queue, map);
+    let m = ms622424_transfer::transfer(s, slots, queue, map);
     accepted(0, m.count, m.state)
 }

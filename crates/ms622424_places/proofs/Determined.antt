@@ -16,7 +16,7 @@ use Rattle.ms622424.specs.Ms622424.{Chip, Call, called}
 use Rattle.ms622424.proofs.Kept.{accepted-in-order}
 use Rattle.ms622424_places.specs.declared.Fifo.{Fifo}
 use Rattle.ms622424_places.specs.Places.{packed, unpacked, entriesIn, colours, right, Handed, handed, view}
-use Rattle.ms622424_places.specs.Places.{seen, Does}
+use Rattle.ms622424_places.specs.Places.{seen, Does, Same}
 use Rattle.ms622424_places.proofs.Places.{how-many, unused, zeros}
 
 -- packing loses nothing
@@ -64,6 +64,16 @@ kept-once h g l r e =
     same-handed (ap (λ (c : Chip). c .port) e) (ap (λ (c : Chip). c .control) e) (ap (λ (c : Chip). c .ident) e) w q
     (ap (λ (c : Chip). c .map) e)
 
+-- where a call was accepted its places are in order
+ordered : (k : Call) (h : Handed) (o : Outcome Handed) → Does h o (called k) → o .refusal ≡ 0
+    → (length (o .left .queue) ≡ 64) × (right (o .left .state .fifo) (o .left .queue) ≡ true)
+ordered k h o a e =
+    let order = accepted-in-order k (view h) (ap (λ (x : Outcome Chip). x .refusal) (sym (a .chip)) ∙ e) in
+    (
+      ap (λ (x : Outcome Chip). x .left .lent .places) (a .chip) ∙ order .0,
+      ap (λ (x : Outcome Chip). x .left .lent .right) (a .chip) ∙ order .1,
+    )
+
 pub determined : (k : Call) (h : Handed) (o p : Outcome Handed) → Does h o (called k) → Does h p (called k) → o ≡ p
 determined k h o p a b =
     let same : seen o ≡ seen p = a .chip ∙ sym (b .chip) in
@@ -71,13 +81,24 @@ determined k h o p a b =
     let left : o .left ≡ p .left =
     cases (eqb (o .refusal) 0)
     (λ t.
-    let done = ap (λ (x : Outcome Chip). x .refusal) (sym (a .chip)) ∙ eqb-true (o .refusal) 0 t in
-    let order = accepted-in-order k (view h) done in
-    kept-once (o .left) (p .left) (ap (λ (x : Outcome Chip). x .left .lent .places) (a .chip) ∙ order .0)
-    (ap (λ (x : Outcome Chip). x .left .lent .right) (a .chip) ∙ order .1)
-    (ap (λ (x : Outcome Chip). x .left) same))
+    let order = ordered k h o a (eqb-true (o .refusal) 0 t) in
+    kept-once (o .left) (p .left) (order .0) (order .1) (ap (λ (x : Outcome Chip). x .left) same))
     (λ t.
     let z = eqb-false (o .refusal) 0 t in
     a .keeps z ∙ sym (b .keeps (λ y. z (n ∙ y)))) in
     same-outcome n (ap (λ (x : Outcome Chip). x .value) same) (ap (λ (x : Outcome Chip). x .count) same)
     (ap (λ (x : Outcome Chip). x .line) same) left
+
+-- .. and a call that leaves the chip as it was hands back the same bytes
+pub does-same : (k : Call) (h : Handed) (o : Outcome Handed) → Does h o (called k) → Same h (o .left)
+does-same k h o a =
+    record {
+      bytes = λ e.
+          cases (eqb (o .refusal) 0)
+          (λ t. let order = ordered k h o a (eqb-true (o .refusal) 0 t) in
+          kept-once (o .left) h (order .0) (order .1) e)
+          (λ t. a .keeps (eqb-false (o .refusal) 0 t));
+    }
+
+pub same-self : (h : Handed) → Same h h
+same-self h = record { bytes = λ e. refl }

@@ -1,5 +1,5 @@
 -- Laws of the places: how many wait, one put last, the oldest taken, emptied, in range. Assumes nothing.
-use Prim.Native.Nat.{ℕ, zero, suc, _+_, _-_, _*_, _/_, _%_, _<_, _≤_}
+use Prim.Native.Nat.{ℕ, zero, suc, _+_, _-_, _*_, _/_, _%_, _^_, _<_, _≤_}
 use mathlib.Core.Path.{_≡_, refl, sym, ap, _∙_}
 use mathlib.Core.Bool.{Bool, true, _&&_}
 use mathlib.Core.List.{List, [], _∷_, _++_, map, map-append}
@@ -101,6 +101,18 @@ module _ (s : State) (q : List ℕ) (n : ℕ) (r : right (s .fifo) q ≡ true) (
       let b = put-right ∙ sym r in
       let d = length-set q (s .fifo .waiting) n in
       cc
+
+-- a place's address is one of the map's exactly when the place is below 2 ^ 37
+pub below-in-map : (l : List ℕ) → every inMap (entriesIn l) ≡ every (λ (n : ℕ). ltb n (2 ^ 37)) l
+unfolding every
+below-in-map [] = refl
+below-in-map (n ∷ l) =
+    let e : ltb (n / 16777216) 8192 ≡ ltb n (2 ^ 37) =
+    agree _ _
+    (λ h. let g = ltb-true (n / 16777216) 8192 h in lt-ltb n (2 ^ 37) (omega arith))
+    (λ h. let g = ltb-true n (2 ^ 37) h in lt-ltb (n / 16777216) 8192 (omega arith)) in
+    let f = below-in-map l in
+    cc
 
 -- ---- the oldest taken, and the others moved down
 take-drop : (k j : ℕ) (l : List ℕ) → take j (drop k l) ≡ drop k (take (k + j) l)

@@ -85,3 +85,7 @@ seen o = record { refusal = o .refusal; value = o .value; count = o .count; line
 pub record Does (given : Handed) (o : Outcome Handed) (call : Chip → Outcome Chip) : Type 0 where
   pub chip : seen o ≡ call (view given)
   pub keeps : ¬ (o .refusal ≡ 0) → o .left ≡ given
+
+-- a chip that is left as it was is handed back in the same bytes
+pub record Same (given left : Handed) : Type 0 where
+  pub bytes : view left ≡ view given → left ≡ given

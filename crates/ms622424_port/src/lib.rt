@@ -2,7 +2,7 @@
 // access.
 //
 // Source document 004 and document 01, "Chip B", decide; ms622424's specs/Ms622424.antt says it. How the queue is kept
-// is not known here: ms622424_queue keeps it. Not modelled: as there.
+// is not known here: ms622424_queue and the crates beside it keep it. Not modelled: as there.
 pub mod range;
 
 use ms622424::Port;

@@ -31,7 +31,7 @@ fn in_range(s: State, queue: &[u64]) -> bool
     if 16 <= s.ident.board {
         return false;
     }
-    ms622424_queue::range::queue_in_range(s, queue)
+    ms622424_queue_range::queue_in_range(s, queue)
 }
 
 // What every call but a reset tries first, of the state and the queue.

@@ -9,30 +9,10 @@ use ms622424_places::State;
 use ms622424_port::accepted;
 use ms622424_port::refused;
 ghost use mathlib.Core.Path.{_≡_};
-ghost use Prim.Native.Nat.{_+_, _*_, _<_, _≤_};
+ghost use Prim.Native.Nat.{_+_, _*_, _<_};
 ghost use lib.ListN.{length, getD};
-ghost use Rattle.vocabulary.specs.Choice.{pick};
-ghost use Rattle.ms622424.specs.Ms622424.{selected, stepped, statusOf, reads, called};
+ghost use Rattle.ms622424.specs.Ms622424.{selected, stepped, reads, called};
 ghost use Rattle.ms622424_places.specs.Places.{accept, handed, outcome, Does};
-
-// One of two numbers, by a test.
-fn choose(test: bool, yes: u8, no: u8) -> u8
-    ensures { λ r. ⌜ (r ≡ pick test yes no) × (r ≤ yes + no) ⌝ }
-{
-    if test { yes } else { no }
-}
-
-// The Status Register: the counter, and three flags that are active low.
-fn status(s: State) -> u8
-    requires { ⌜ s .port .counter < 3 ⌝ }
-    ensures { λ r. ⌜ r ≡ statusOf (s .port .counter) (s .fifo .waiting) (s .control) ⌝ }
-{
-    let mark = choose(s.control.command / 16 % 2 == 0, 32, 56);
-    let empty = choose(s.fifo.waiting == 0, 0, 4);
-    let filled = choose(mark <= s.fifo.waiting, 0, 8);
-    let full = choose(s.fifo.waiting == 64, 0, 16);
-    s.port.counter + empty + filled + full
-}
 
 // A read of the Color Palette that is not refused.
 fn read_palette(s: State, map: &[u8]) -> Answer
@@ -74,7 +54,7 @@ pub extern "C" fn zk_b_read(s: State, select: u8, queue: &[u64], map: &[u8]) -> 
             read_palette(s, map)
         }
         3 => accepted(s.control.command, 0, s),
-        4 => accepted(status(s), 0, s),
+        4 => accepted(ms622424_status::status(s), 0, s),
         5 => match counter {
             0 => {
                 let p = Port {

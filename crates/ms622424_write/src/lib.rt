@@ -5,78 +5,11 @@
 use ms622424::Control;
 use ms622424::Port;
 use ms622424_places::Answer;
-use ms622424_places::Moved;
 use ms622424_places::State;
 use ms622424_port::accepted;
 use ms622424_port::refused;
-ghost use mathlib.Core.Path.{_≡_};
-ghost use mathlib.Core.Bool.{true};
-ghost use mathlib.Core.List.{List};
-ghost use Prim.Native.Nat.{ℕ, _<_};
-ghost use lib.ListN.{length};
-ghost use Rattle.ms622424.specs.Ms622424.{InRange, made, roomMade, selected, taken, palette, written, writes, called};
-ghost use Rattle.ms622424_places.specs.Places.{right, handed, view, outcome, seen, Does};
-
-// A full queue makes room for four entries.
-fn make_room(s: State, queue: &mut [u64], map: &mut [u8]) -> Moved
-    requires { ⌜ InRange (view (handed s (now queue) (now map))) ⌝ }
-    ensures { λ r. ⌜ made (r .count) (view (handed (r .state) (now (queue .exit)) (now (map .exit))))
-        ≡ roomMade (view (handed s (now (queue .entry)) (now (map .entry)))) ⌝ }
-{
-    if s.fifo.waiting == 64 {
-        return ms622424_queue::transfer(s, 4, queue, map);
-    }
-    Moved { count: 0, state: s }
-}
-
-// A byte for the palette, with room in the queue: red and green go to the buffer, blue completes.
-fn take_byte(s: State, byte: u8, queue: &mut [u64]) -> State
-    requires { ⌜ (length (now queue) ≡ 64) × (right (s .fifo) (now queue) ≡ true) × (s .fifo .waiting < 64) ⌝ }
-    ensures { λ r. ⌜ ((m : List ℕ) → view (handed r (now (queue .exit)) m)
-        ≡ taken (selected (s .port)) byte (view (handed s (now (queue .entry)) m))) ⌝ }
-{
-    let counter = s.port.counter;
-    match counter {
-        0 => {
-            let p = Port {
-                address: s.port.address,
-                counter: 1,
-                red: byte,
-                green: s.port.green,
-            };
-            State { port: p, ..s }
-        }
-        1 => {
-            let p = Port {
-                address: s.port.address,
-                counter: 2,
-                red: s.port.red,
-                green: byte,
-            };
-            State { port: p, ..s }
-        }
-        _ => {
-            let n = ms622424_queue::put(s, byte, queue);
-            let p = Port {
-                address: (s.port.address % 8192 + 1) % 8192,
-                counter: 0,
-                red: s.port.red,
-                green: s.port.green,
-            };
-            State { port: p, ..n }
-        }
-    }
-}
-
-// A write to the Color Palette Buffer that is not refused.
-fn write_palette(s: State, byte: u8, queue: &mut [u64], map: &mut [u8]) -> Answer
-    requires { ⌜ InRange (view (handed s (now queue) (now map))) ⌝ }
-    ensures { λ r. ⌜ seen (outcome r (now (queue .exit)) (now (map .exit)))
-        ≡ written palette byte (view (handed s (now (queue .entry)) (now (map .entry)))) ⌝ }
-{
-    let m = make_room(s, queue, map);
-    accepted(0, m.count, take_byte(m.state, byte, queue))
-}
+ghost use Rattle.ms622424.specs.Ms622424.{writes, called};
+ghost use Rattle.ms622424_places.specs.Places.{handed, outcome, Does};
 
 // A write of a byte to a select.
 #[no_mangle]
@@ -117,7 +50,7 @@ pub extern "C" fn zk_b_write(
             if s.control.readmode == 1 {
                 return refused(5, s);
             }
-            write_palette(s, byte, queue, map)
+            ms622424_palette::write_palette(s, byte, queue, map)
         }
         3 => {
             let d = Control {

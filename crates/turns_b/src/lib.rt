@@ -12,7 +12,7 @@ use ms622424_places::State;
 ghost use Prim.Native.Nat.{ℕ};
 ghost use mathlib.Core.List.{List};
 ghost use Rattle.ms622424.specs.Ms622424.{signals as signalsCall, called};
-ghost use Rattle.ms622424_places.specs.Places.{handed, view};
+ghost use Rattle.ms622424_places.specs.Places.{handed, view, Same};
 ghost use Rattle.turns.specs.Turns.{signalled, Told};
 ghost use Rattle.turns_b.specs.Turns.{bTurn, bOwn, BTook};
 
@@ -37,6 +37,8 @@ fn told(r: Answer, news: News) -> BTurn
 fn sync(s: State, signals: u8, queue: &[u64]) -> BTurn
     ensures { λ t. ⌜ ((map : List ℕ) → BTook t (now (queue .entry)) map
         (signalled (called (signalsCall signals) (view (handed s (now (queue .entry)) map))))) ⌝ }
+    ensures { λ t. ⌜ ((map : List ℕ)
+        → Same (handed s (now (queue .entry)) map) (handed (t .state) (now (queue .entry)) map)) ⌝ }
 {
     let r = ms622424_signals::zk_b_sync(s, signals, queue);
     told(r, News::Sync(r.value))
@@ -46,6 +48,8 @@ fn sync(s: State, signals: u8, queue: &[u64]) -> BTurn
 fn own(s: State, call: CallB, queue: &mut [u64], map: &mut [u8]) -> BTurn
     ensures { λ t. ⌜ BTook t (now (queue .exit)) (now (map .exit))
         (bOwn call (view (handed s (now (queue .entry)) (now (map .entry))))) ⌝ }
+    ensures { λ t. ⌜ Same (handed s (now (queue .entry)) (now (map .entry)))
+        (handed (t .state) (now (queue .exit)) (now (map .exit))) ⌝ }
 {
     match call {
         CallB::Pixel(mode, word) => {
@@ -67,6 +71,8 @@ fn own(s: State, call: CallB, queue: &mut [u64], map: &mut [u8]) -> BTurn
 pub fn b_turn(s: State, call: Call, queue: &mut [u64], map: &mut [u8]) -> BTurn
     ensures { λ t. ⌜ BTook t (now (queue .exit)) (now (map .exit))
         (bTurn call (view (handed s (now (queue .entry)) (now (map .entry))))) ⌝ }
+    ensures { λ t. ⌜ Same (handed s (now (queue .entry)) (now (map .entry)))
+        (handed (t .state) (now (queue .exit)) (now (map .exit))) ⌝ }
 {
     match call {
         Call::Write(select, byte) => {

@@ -6,8 +6,5 @@ use Rattle.answers.proofs.told.Tie as tie
 pub told-spec : {M : Type 1} → statement M
 told-spec =
     tie.close
-    (tie.spec
-    (λ c. search needs)
-    (λ c. search (says-refused, needs))
-    (λ c. search needs)
+    (tie.spec (λ c. search needs) (λ c. search (says-refused, needs)) (λ c. search needs)
     (λ c. search (says-done, needs)))

@@ -9,14 +9,6 @@ ruleset arms = (took-list, sheet-at, took-bad, needs)
 pub sheet-spec : {M : Type 1} → statement M
 sheet-spec =
     tie.close
-    (tie.spec
-    (λ c. search needs)
-    (λ c κs. search needs)
-    (λ c. search needs)
-    (λ c κs. search needs)
-    (λ c. search needs)
-    (λ c κs. search needs)
-    (λ c. search needs)
-    (λ c. search arms)
-    (λ c. search arms)
-    (λ c. search arms))
+    (tie.spec (λ c. search needs) (λ c κs. search needs) (λ c. search needs) (λ c κs. search needs)
+    (λ c. search needs) (λ c κs. search needs) (λ c. search needs) (λ c. (search arms, search needs)) (λ c. (search arms, search needs))
+    (λ c. (search arms, search needs)))

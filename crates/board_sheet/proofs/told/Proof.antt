@@ -6,11 +6,5 @@ use Rattle.board_sheet.proofs.told.Tie as tie
 pub told-spec : {M : Type 1} → statement M
 told-spec =
     tie.close
-    (tie.spec
-    (λ c. search needs)
-    (λ c κs. search needs)
-    (λ c. search needs)
-    (λ c. search needs)
-    (λ c κs. search needs)
-    (λ c. search (listed-at, needs))
-    (λ c. search (listed-at, needs)))
+    (tie.spec (λ c. search needs) (λ c κs. search needs) (λ c. search needs) (λ c. search needs)
+    (λ c κs. search needs) (λ c. search (listed-at, needs)) (λ c. search (listed-at, needs)))

@@ -6,6 +6,4 @@ use Rattle.board_start.proofs.a_start.Tie as tie
 pub a-start-spec : {M : Type 1} → statement M
 a-start-spec =
     tie.close
-    (tie.spec
-    (λ c κs. search needs)
-    (λ c. a-zeroed _ (c .before .zk-a-reset .ensures)))
+    (tie.spec (λ c κs. search needs) (λ c. a-zeroed _ (c .before .zk-a-reset .ensures)))

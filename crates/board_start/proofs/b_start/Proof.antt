@@ -6,8 +6,4 @@ use Rattle.board_start.proofs.b_start.Tie as tie
 pub b-start-spec : {M : Type 1} → statement M
 b-start-spec =
     tie.close
-    (tie.spec
-    (λ c κs. search needs)
-    (λ c κs. search needs)
-    (λ c. search needs)
-    (λ c. search b-left))
+    (tie.spec (λ c κs. search needs) (λ c κs. search needs) (λ c. search needs) (λ c. search b-left))

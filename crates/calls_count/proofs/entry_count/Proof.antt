@@ -8,7 +8,6 @@ pub entry-count-spec : {M : Type 1} → statement M
 unfolding entryCount
 entry-count-spec =
     tie.close
-    (tie.spec
-    (λ c. (rw (kept-missing _ (c .if1 .taken)), search needs))
+    (tie.spec (λ c. (rw (kept-missing _ (c .if1 .taken)), search needs))
     (λ c. (rw (kept-has _ (c .before .if1 .left), c .if2 .taken), search needs))
     (λ c. (rw (kept-has _ (c .before .if1 .left), c .if2 .left), search needs)))

@@ -8,8 +8,6 @@ pub put-address-spec : {M : Type 1} → statement M
 unfolding callBytes
 put-address-spec =
     tie.close
-    (tie.spec
-    (λ c. rw (c .if1 .taken) (nothing _ _))
-    (λ c κs. rw (c .before .if1 .left) at (c .before .before .before .pre))
-    (λ c. search needs)
+    (tie.spec (λ c. rw (c .if1 .taken) (nothing _ _))
+    (λ c κs. rw (c .before .if1 .left) at (c .before .before .before .pre)) (λ c. search needs)
     (λ c. rw (c .before .before .before .before .if1 .left) (c .before .before .put-call .ensures)))

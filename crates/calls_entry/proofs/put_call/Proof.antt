@@ -10,10 +10,5 @@ pub put-call-spec : {M : Type 1} → statement M
 unfolding callBytes
 put-call-spec =
     tie.close
-    (tie.spec
-    (λ c. search needs)
-    (λ c. search needs)
-    (λ c. simp length-set (omega arith))
-    (λ c. search needs)
-    (λ c. search needs)
-    (λ c. search (two-stored, needs)))
+    (tie.spec (λ c. search needs) (λ c. search needs) (λ c. simp length-set (omega arith)) (λ c. search needs)
+    (λ c. search needs) (λ c. search (two-stored, needs)))

@@ -17,16 +17,6 @@ abbrev μ-loop : tie.MeasureT-loop
 pub table-calls-spec : {M : Type 1} → statement M
 table-calls-spec =
     tie.close
-    (tie.spec
-    Inv-loop
-    μ-loop
-    (λ c. search (begins, needs))
-    (λ c. search needs)
-    (λ c. search needs)
-    (λ c. search needs)
-    (λ c κs. search (entry-fits, needs))
-    (λ c. search needs)
-    (λ c. search needs)
-    (λ c. search (next-entry, needs))
-    (λ c. search needs)
-    (λ c. search (last-entry, needs)))
+    (tie.spec Inv-loop μ-loop (λ c. search (begins, needs)) (λ c. search needs) (λ c. search needs)
+    (λ c. search needs) (λ c κs. search (entry-fits, needs)) (λ c. search needs) (λ c. search needs)
+    (λ c. search (next-entry, needs)) (λ c. search needs) (λ c. search (last-entry, needs)))

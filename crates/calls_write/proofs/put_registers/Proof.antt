@@ -8,14 +8,7 @@ use Rattle.calls_write.proofs.put_registers.Tie as tie
 pub put-registers-spec : {M : Type 1} → statement M
 put-registers-spec =
     tie.close
-    (tie.spec
-    (λ c. search needs)
-    (λ c. simp length-set (omega arith))
-    (λ c. simp length-set (omega arith))
-    (λ c. simp length-set (omega arith))
-    (λ c. simp length-set (omega arith))
-    (λ c. simp length-set (omega arith))
-    (λ c. simp length-set (omega arith))
-    (λ c. simp length-set (omega arith))
-    (λ c. search needs)
+    (tie.spec (λ c. search needs) (λ c. simp length-set (omega arith)) (λ c. simp length-set (omega arith))
+    (λ c. simp length-set (omega arith)) (λ c. simp length-set (omega arith)) (λ c. simp length-set (omega arith))
+    (λ c. simp length-set (omega arith)) (λ c. simp length-set (omega arith)) (λ c. search needs)
     (λ c. search (eight-stored, needs)))

@@ -14,17 +14,6 @@ part-start c =
 pub tables-calls-spec : {M : Type 1} → statement M
 tables-calls-spec =
     tie.close
-    (tie.spec
-    (λ c. search needs)
-    (λ c. search needs)
-    (λ c. search needs)
-    (λ c κs. (search needs, search parts))
-    (λ c. search needs)
-    (λ c. search needs)
-    (λ c. search needs)
-    (λ c. search parts)
-    part-start
-    (λ c. search needs)
-    (λ c κs. (search needs, search parts))
-    (λ c. search needs)
-    (λ c. search parts))
+    (tie.spec (λ c. search needs) (λ c. search needs) (λ c. search needs) (λ c κs. (search needs, search parts))
+    (λ c. search needs) (λ c. search needs) (λ c. search needs) (λ c. search parts) part-start (λ c. search needs)
+    (λ c κs. (search needs, search parts)) (λ c. search needs) (λ c. search parts))

@@ -14,11 +14,5 @@ part-start c =
 pub write-calls-spec : {M : Type 1} → statement M
 write-calls-spec =
     tie.close
-    (tie.spec
-    (λ c κs. (search needs, search parts))
-    (λ c. search parts)
-    part-start
-    (λ c. search needs)
-    (λ c κs. (search needs, search parts))
-    (λ c. search needs)
-    (λ c. search parts))
+    (tie.spec (λ c κs. (search needs, search parts)) (λ c. search parts) part-start (λ c. search needs)
+    (λ c κs. (search needs, search parts)) (λ c. search needs) (λ c. search parts))

@@ -7,7 +7,5 @@ use Rattle.expand_c.proofs.zk_expand8.Tie as tie
 pub zk-expand8-spec : {M : Type 1} → statement M
 zk-expand8-spec =
     tie.close
-    (tie.spec
-    (λ c. search needs)
-    (λ c. search needs)
+    (tie.spec (λ c. search needs) (λ c. search needs)
     (λ c. c .told .ensures ∙ ap telling (c .before .expand8 .ensures)))

@@ -8,7 +8,4 @@ pub eight-listed-spec : {M : Type 1} → statement M
 unfolding ten
 eight-listed-spec =
     tie.close
-    (tie.spec
-    (λ c. search needs)
-    (λ c. search needs)
-    (λ c. table-rule (ten 8) 256 (c .args .v) (search needs)))
+    (tie.spec (λ c. search needs) (λ c. search needs) (λ c. table-rule (ten 8) 256 (c .args .v) (search needs)))

@@ -6,8 +6,5 @@ use Rattle.expand_tables.proofs.expand8.Tie as tie
 pub expand8-spec : {M : Type 1} → statement M
 expand8-spec =
     tie.close
-    (tie.spec
-    (λ c. expansion-refused 8 _ (search needs))
-    (λ c. search needs)
-    (λ c. search needs)
+    (tie.spec (λ c. expansion-refused 8 _ (search needs)) (λ c. search needs) (λ c. search needs)
     (λ c. expansion-ten 8 _ (c .eight-listed .ensures) (search needs)))

@@ -8,7 +8,4 @@ pub six-listed-spec : {M : Type 1} → statement M
 unfolding ten
 six-listed-spec =
     tie.close
-    (tie.spec
-    (λ c. search needs)
-    (λ c. search needs)
-    (λ c. table-rule (ten 6) 64 (c .args .v) (search needs)))
+    (tie.spec (λ c. search needs) (λ c. search needs) (λ c. table-rule (ten 6) 64 (c .args .v) (search needs)))

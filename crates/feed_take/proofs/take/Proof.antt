@@ -21,24 +21,12 @@ returns : tie.Need-returns
 returns c =
     let h = heard c .before .hear .ensures in
     let r = c .after .ensures in
-    (r .2 ∙ h .taken, took-line (c .after .result) _ _ _ _ _ _ _ _ _ h (r .0) (r .1) _ (asked c .if1 .taken) (answered c .answer .ensures))
+    (r .2 ∙ h .taken, took-line (c .after .result) _ _ _ _ _ _ _ _ _ h (r .0) (r .1) _ (asked c .if1 .taken) (answered c .answer .ensures .0))
 
 pub take-spec : {M : Type 1} → statement M
 take-spec =
     tie.close
-    (tie.spec
-    (λ c κs. search needs)
-    (λ c κs. search needs)
-    (λ c κs. search needs)
-    (λ c. heard c .hold .given)
-    (λ c. search needs)
-    (λ c. search needs)
-    (λ c. search needs)
-    (λ c. search needs)
-    (λ c. search needs)
-    (λ c. search needs)
-    returns
-    (λ c κs. search needs)
-    (λ c κs. search needs)
-    (λ c. search needs)
+    (tie.spec (λ c κs. search needs) (λ c κs. search needs) (λ c κs. search needs) (λ c. heard c .hold .given)
+    (λ c. search needs) (λ c. search needs) (λ c. search needs) (λ c. search needs) (λ c. search needs)
+    (λ c. search needs) returns (λ c κs. search needs) (λ c κs. search needs) (λ c. search needs)
     (λ c. search parts))

@@ -8,11 +8,5 @@ ruleset ends = (first-at, later-at, needs)
 pub shown-at-spec : {M : Type 1} → statement M
 shown-at-spec =
     tie.close
-    (tie.spec
-    (λ c. search ends)
-    (λ c. search ends)
-    (λ c. search ends)
-    (λ c. search ends)
-    (λ c. search ends)
-    (λ c. search ends)
-    (λ c. search ends))
+    (tie.spec (λ c. search ends) (λ c. search ends) (λ c. search ends) (λ c. search ends) (λ c. search ends)
+    (λ c. search ends) (λ c. search ends))

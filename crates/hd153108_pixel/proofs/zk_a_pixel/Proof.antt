@@ -7,13 +7,9 @@ use Rattle.hd153108_pixel.proofs.zk_a_pixel.Tie as tie
 pub zk-a-pixel-spec : {M : Type 1} → statement M
 zk-a-pixel-spec =
     tie.close
-    (tie.spec
-    (λ c. search needs)
-    (λ c. search needs)
-    (λ c κs. inside-as (c .before .before .before .picked .ensures) (c .before .p .given .1))
-    (λ c. search needs)
-    (λ c κs. inside-as (c .before .before .before .picked .ensures) (c .before .p2 .given .1))
-    (λ c. search needs)
+    (tie.spec (λ c. search needs) (λ c. search needs)
+    (λ c κs. inside-as (c .before .before .before .picked .ensures) (c .before .p .given .1)) (λ c. search needs)
+    (λ c κs. inside-as (c .before .before .before .picked .ensures) (c .before .p2 .given .1)) (λ c. search needs)
     (λ c.
     shown-as _ (c .shown-at .ensures)
     (told-as (c .before .before .before .before .picked .ensures) (c .before .before .p .given .1)))

@@ -18,10 +18,6 @@ returns-5 c =
 pub good-spec : {M : Type 1} → statement M
 good-spec =
     tie.close
-    (tie.spec
-    (λ c. sym (not-meets _ (λ g. omega arith)))
-    (λ c. sym (not-meets _ (λ g. omega arith)))
-    (λ c. sym (not-meets _ (λ g. omega arith)))
-    (λ c. sym (not-meets _ (λ g. search (c .if4 .taken))))
-    (λ c κs. search needs)
-    returns-5)
+    (tie.spec (λ c. sym (not-meets _ (λ g. omega arith))) (λ c. sym (not-meets _ (λ g. omega arith)))
+    (λ c. sym (not-meets _ (λ g. omega arith))) (λ c. sym (not-meets _ (λ g. search (c .if4 .taken))))
+    (λ c κs. search needs) returns-5)

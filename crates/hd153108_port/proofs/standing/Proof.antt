@@ -9,10 +9,8 @@ use Rattle.hd153108_port.proofs.standing.Tie as tie
 pub standing-spec : {M : Type 1} → statement M
 standing-spec =
     tie.close
-    (tie.spec
-    (λ c. stands-short _ (not-fails _ (λ g. search (c .if1 .taken))))
-    (λ c. stands-short _ (not-fails _ (λ g. search (c .if2 .taken))))
-    (λ c κs. search needs)
+    (tie.spec (λ c. stands-short _ (not-fails _ (λ g. search (c .if1 .taken))))
+    (λ c. stands-short _ (not-fails _ (λ g. search (c .if2 .taken)))) (λ c κs. search needs)
     (λ c.
     stands-outside (holds-passes _ (search))
     (misses-fails _ (sym (c .before .good2 .ensures) ∙ not-true _ (c .if3 .taken))))

@@ -7,11 +7,5 @@ use Rattle.hd153108_read.proofs.data_read.Tie as tie
 pub data-read-spec : {M : Type 1} → statement M
 data-read-spec =
     tie.close
-    (tie.spec
-    (λ c. search needs)
-    (λ c. search needs)
-    (λ c. search needs)
-    (λ c. search needs)
-    (λ c κs. search needs)
-    (λ c κs. search needs)
-    (λ c. c .accepted .ensures ∙ ap (accept _) (c .before .stepped .ensures)))
+    (tie.spec (λ c. search needs) (λ c. search needs) (λ c. search needs) (λ c. search needs) (λ c κs. search needs)
+    (λ c κs. search needs) (λ c. c .accepted .ensures ∙ ap (accept _) (c .before .stepped .ensures)))

@@ -8,8 +8,7 @@ use Rattle.hd153108_shown.proofs.masked_byte.Tie as tie
 pub masked-byte-spec : {M : Type 1} → statement M
 masked-byte-spec =
     tie.close
-    (tie.spec
-    (λ c. search needs)
+    (tie.spec (λ c. search needs)
     (λ c.
     let a = c .before .args in
     let on = masked-on 8 0 (a .read) (a .blink) (a .byte) (255 - a .read) (omega arith) (omega arith) in

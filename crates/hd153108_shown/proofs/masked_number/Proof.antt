@@ -8,8 +8,7 @@ use Rattle.hd153108_shown.proofs.masked_number.Tie as tie
 pub masked-number-spec : {M : Type 1} → statement M
 masked-number-spec =
     tie.close
-    (tie.spec
-    (λ c. search needs)
+    (tie.spec (λ c. search needs)
     (λ c.
     let a = c .before .args in
     let on = masked-on 2 6 (a .control) (a .control / 4) (a .number) (255 - a .control) (omega arith) (omega arith) in

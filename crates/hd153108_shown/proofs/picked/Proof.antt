@@ -9,16 +9,6 @@ ruleset ends = (picked-first, picked-enable, picked-number, picked-colour, picke
 pub picked-spec : {M : Type 1} → statement M
 picked-spec =
     tie.close
-    (tie.spec
-    (λ c. search ends)
-    (λ c. search ends)
-    (λ c. search ends)
-    (λ c. search ends)
-    (λ c. search ends)
-    (λ c. search ends)
-    (λ c. search ends)
-    (λ c. search ends)
-    (λ c. search ends)
-    (λ c. search ends)
-    (λ c. search ends)
-    (λ c. search ends))
+    (tie.spec (λ c. search ends) (λ c. search ends) (λ c. search ends) (λ c. search ends) (λ c. search ends)
+    (λ c. search ends) (λ c. search ends) (λ c. search ends) (λ c. search ends) (λ c. search ends)
+    (λ c. search ends) (λ c. search ends))

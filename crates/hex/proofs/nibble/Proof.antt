@@ -8,13 +8,5 @@ ruleset values = (value-before, value-low, value-between, value-high, value-behi
 pub nibble-spec : {M : Type 1} → statement M
 nibble-spec =
     tie.close
-    (tie.spec
-    (λ c. search values)
-    (λ c. search needs)
-    (λ c. search needs)
-    (λ c. search values)
-    (λ c. search values)
-    (λ c. search needs)
-    (λ c. search needs)
-    (λ c. search values)
-    (λ c. search values))
+    (tie.spec (λ c. search values) (λ c. search needs) (λ c. search needs) (λ c. search values) (λ c. search values)
+    (λ c. search needs) (λ c. search needs) (λ c. search values) (λ c. search values))

@@ -32,17 +32,6 @@ returns c =
 pub spelt-spec : {M : Type 1} → statement M
 spelt-spec =
     tie.close
-    (tie.spec
-    Inv-loop
-    μ-loop
-    (λ c. search (number-none, needs))
-    mul-v
-    (λ c. search needs)
-    (λ c. search needs)
-    (λ c. search needs)
-    (λ c. search needs)
-    add-v
-    (λ c. search needs)
-    (λ c. search needs)
-    (λ c. search (number-more, needs))
-    returns)
+    (tie.spec Inv-loop μ-loop (λ c. search (number-none, needs)) mul-v (λ c. search needs) (λ c. search needs)
+    (λ c. search needs) (λ c. search needs) add-v (λ c. search needs) (λ c. search needs)
+    (λ c. search (number-more, needs)) returns)

@@ -6,7 +6,5 @@ use Rattle.hex_number.proofs.spelt_byte.Tie as tie
 pub spelt-byte-spec : {M : Type 1} → statement M
 spelt-byte-spec =
     tie.close
-    (tie.spec
-    (λ c. search needs)
-    (λ c. record { fits = number-fits 2 _ _ _ (c .spelt .ensures) (search needs) })
+    (tie.spec (λ c. search needs) (λ c. record { fits = number-fits 2 _ _ _ (c .spelt .ensures) (search needs) })
     (λ c. search needs))

@@ -8,11 +8,5 @@ ruleset ends = (hears-line, hears-part, needs)
 pub hear-spec : {M : Type 1} → statement M
 hear-spec =
     tie.close
-    (tie.spec
-    (λ c κs. search needs)
-    (λ c κs. search needs)
-    (λ c. search needs)
-    (λ c. search needs)
-    (λ c. search ends)
-    (λ c. search needs)
-    (λ c. search ends))
+    (tie.spec (λ c κs. search needs) (λ c κs. search needs) (λ c. search needs) (λ c. search needs)
+    (λ c. search ends) (λ c. search needs) (λ c. search ends))

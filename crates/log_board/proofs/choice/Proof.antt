@@ -8,14 +8,5 @@ ruleset forms = (said-first, said-next, said-none, needs)
 pub choice-spec : {M : Type 1} → statement M
 choice-spec =
     tie.close
-    (tie.spec
-    (λ c. search needs)
-    (λ c. search needs)
-    (λ c. search forms)
-    (λ c. search needs)
-    (λ c. search needs)
-    (λ c. search forms)
-    (λ c. search needs)
-    (λ c. search needs)
-    (λ c. search forms)
-    (λ c. search forms))
+    (tie.spec (λ c. search needs) (λ c. search needs) (λ c. search forms) (λ c. search needs) (λ c. search needs)
+    (λ c. search forms) (λ c. search needs) (λ c. search needs) (λ c. search forms) (λ c. search forms))

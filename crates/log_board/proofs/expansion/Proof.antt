@@ -8,7 +8,4 @@ ruleset forms = (expands-six, expands-eight, expands-not, needs)
 pub expansion-spec : {M : Type 1} → statement M
 expansion-spec =
     tie.close
-    (tie.spec
-    (λ c. search forms)
-    (λ c. search forms)
-    (λ c. search forms))
+    (tie.spec (λ c. search forms) (λ c. search forms) (λ c. search forms))

@@ -8,16 +8,6 @@ ruleset forms = (said-first, said-next, says-shown, needs)
 pub a-line-spec : {M : Type 1} → statement M
 a-line-spec =
     tie.close
-    (tie.spec
-    (λ c. search needs)
-    (λ c. search needs)
-    (λ c. search forms)
-    (λ c. search needs)
-    (λ c. search needs)
-    (λ c. search needs)
-    (λ c. search needs)
-    (λ c. search needs)
-    (λ c. search needs)
-    (λ c. search forms)
-    (λ c. search needs)
-    (λ c. search forms))
+    (tie.spec (λ c. search needs) (λ c. search needs) (λ c. search forms) (λ c. search needs) (λ c. search needs)
+    (λ c. search needs) (λ c. search needs) (λ c. search needs) (λ c. search needs) (λ c. search forms)
+    (λ c. search needs) (λ c. search forms))

@@ -8,19 +8,6 @@ ruleset forms = (said-first, said-next, says-pixel, says-blank, says-sync, needs
 pub b-line-spec : {M : Type 1} → statement M
 b-line-spec =
     tie.close
-    (tie.spec
-    (λ c. search needs)
-    (λ c. search needs)
-    (λ c. search needs)
-    (λ c. search needs)
-    (λ c. search forms)
-    (λ c. search needs)
-    (λ c. search needs)
-    (λ c. search needs)
-    (λ c. search forms)
-    (λ c. search needs)
-    (λ c. search needs)
-    (λ c. search needs)
-    (λ c. search forms)
-    (λ c. search needs)
-    (λ c. search forms))
+    (tie.spec (λ c. search needs) (λ c. search needs) (λ c. search needs) (λ c. search needs) (λ c. search forms)
+    (λ c. search needs) (λ c. search needs) (λ c. search needs) (λ c. search forms) (λ c. search needs)
+    (λ c. search needs) (λ c. search needs) (λ c. search forms) (λ c. search needs) (λ c. search forms))

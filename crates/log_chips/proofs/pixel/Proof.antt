@@ -8,6 +8,4 @@ ruleset forms = (shows-it, shows-not, needs)
 pub pixel-spec : {M : Type 1} → statement M
 pixel-spec =
     tie.close
-    (tie.spec
-    (λ c. search forms)
-    (λ c. search forms))
+    (tie.spec (λ c. search forms) (λ c. search forms))

@@ -8,18 +8,6 @@ ruleset forms = (said-first, said-next, says-write, says-read, needs)
 pub parse-spec : {M : Type 1} → statement M
 parse-spec =
     tie.close
-    (tie.spec
-    (λ c. search needs)
-    (λ c. search needs)
-    (λ c. search needs)
-    (λ c. search needs)
-    (λ c. search forms)
-    (λ c. search needs)
-    (λ c. search needs)
-    (λ c. search needs)
-    (λ c. search forms)
-    (λ c. search needs)
-    (λ c. search needs)
-    (λ c. search forms)
-    (λ c. search needs)
-    (λ c. search forms))
+    (tie.spec (λ c. search needs) (λ c. search needs) (λ c. search needs) (λ c. search needs) (λ c. search forms)
+    (λ c. search needs) (λ c. search needs) (λ c. search needs) (λ c. search forms) (λ c. search needs)
+    (λ c. search needs) (λ c. search forms) (λ c. search needs) (λ c. search forms))

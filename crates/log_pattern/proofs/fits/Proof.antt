@@ -20,16 +20,6 @@ ruleset ends = (fits-length, fits-all, fits-on, fits-not, not-true, not-false, n
 pub fits-spec : {M : Type 1} → statement M
 fits-spec =
     tie.close
-    (tie.spec
-    Inv-loop
-    μ-loop
-    (λ c. search ends)
-    (λ c. search needs)
-    (λ c. search needs)
-    (λ c. search needs)
-    (λ c. search needs)
-    (λ c. search ends)
-    (λ c. search needs)
-    (λ c. search needs)
-    (λ c. search ends)
+    (tie.spec Inv-loop μ-loop (λ c. search ends) (λ c. search needs) (λ c. search needs) (λ c. search needs)
+    (λ c. search needs) (λ c. search ends) (λ c. search needs) (λ c. search needs) (λ c. search ends)
     (λ c. search ends))

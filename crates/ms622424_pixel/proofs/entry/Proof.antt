@@ -14,15 +14,7 @@ returns-4 c =
 pub entry-spec : {M : Type 1} → statement M
 entry-spec =
     tie.close
-    (tie.spec
-    (λ c. search needs)
-    (λ c. search needs)
-    (λ c. search needs)
-    (λ c. search needs)
-    (λ c. search needs)
-    (λ c. search needs)
-    (λ c. search needs)
-    (λ c. (omega arith, λ k e. entry-index _ _ k (c .match .keys1)))
+    (tie.spec (λ c. search needs) (λ c. search needs) (λ c. search needs) (λ c. search needs) (λ c. search needs)
+    (λ c. search needs) (λ c. search needs) (λ c. (omega arith, λ k e. entry-index _ _ k (c .match .keys1)))
     (λ c. (omega arith, λ k e. entry-based 0 _ _ _ _ k (c .match .keys2) refl e))
-    (λ c. (omega arith, λ k e. entry-based 1 _ _ _ _ k (c .match .keys3) refl e))
-    returns-4)
+    (λ c. (omega arith, λ k e. entry-based 1 _ _ _ _ k (c .match .keys3) refl e)) returns-4)

@@ -25,8 +25,5 @@ pub step-spec : {M : Type 1} → statement M
 unfolding stepped
 step-spec =
     tie.close
-    (tie.spec
-    (λ c. search needs)
-    (λ c. arm (c .before) (is-red (c .match .keys1)))
-    (λ c. arm (c .before) (is-green (c .match .keys2)))
-    returns-3)
+    (tie.spec (λ c. search needs) (λ c. arm (c .before) (is-red (c .match .keys1)))
+    (λ c. arm (c .before) (is-green (c .match .keys2))) returns-3)

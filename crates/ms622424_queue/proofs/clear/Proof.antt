@@ -3,7 +3,7 @@ use mathlib.Core.Path.{_≡_}
 use mathlib.Core.List.{_++_}
 use native.Mathlib.Omega.{arith}
 use lib.ListN.{length, drop}
-use Rattle.ms622424_queue.proofs.Moved.{zeroed, clear-none, clear-next}
+use Rattle.ms622424_queue.proofs.Cleared.{zeroed, clear-none, clear-next}
 use borrow.Author.Needs.{needs}
 use Rattle.ms622424_queue.proofs.clear.Statement.{statement}
 use Rattle.ms622424_queue.proofs.clear.Tie as tie
@@ -22,14 +22,5 @@ returns c =
 pub clear-spec : {M : Type 1} → statement M
 clear-spec =
     tie.close
-    (tie.spec
-    Inv-loop
-    μ-loop
-    (λ c. search (clear-none, needs))
-    (λ c. search needs)
-    (λ c. search needs)
-    (λ c. search needs)
-    (λ c. search needs)
-    (λ c. search (clear-next, needs))
-    (λ c. search needs)
-    returns)
+    (tie.spec Inv-loop μ-loop (λ c. search (clear-none, needs)) (λ c. search needs) (λ c. search needs)
+    (λ c. search needs) (λ c. search needs) (λ c. search (clear-next, needs)) (λ c. search needs) returns)

@@ -1,4 +1,4 @@
-use Rattle.ms622424_queue.proofs.Moved.{cleared}
+use Rattle.ms622424_queue.proofs.Cleared.{cleared}
 use borrow.Author.Needs.{needs}
 use Rattle.ms622424_queue.proofs.empty.Statement.{statement}
 use Rattle.ms622424_queue.proofs.empty.Tie as tie

@@ -36,12 +36,5 @@ returns-3 c m =
 pub zk-b-sync-spec : {M : Type 1} → statement M
 zk-b-sync-spec =
     tie.close
-    (tie.spec
-    (λ c κs. search needs)
-    (λ c κs. search needs)
-    returns
-    (λ c κs. search needs)
-    returns-2
-    piped-requires
-    (λ c κs. search needs)
-    returns-3)
+    (tie.spec (λ c κs. search needs) (λ c κs. search needs) returns (λ c κs. search needs) returns-2 piped-requires
+    (λ c κs. search needs) returns-3)

@@ -10,10 +10,5 @@ slice-aggregate-fill c = simp length-take (omega arith)
 pub fill-first-spec : {M : Type 1} → statement M
 fill-first-spec =
     tie.close
-    (tie.spec
-    (λ c. search needs)
-    slice-aggregate-fill
-    (λ c κs. search needs)
-    (λ c. search needs)
-    (λ c. search needs)
-    (λ c. search needs))
+    (tie.spec (λ c. search needs) slice-aggregate-fill (λ c κs. search needs) (λ c. search needs)
+    (λ c. search needs) (λ c. search needs))

@@ -8,8 +8,7 @@ use Rattle.rgb640_port.proofs.in_range.Tie as tie
 pub in-range-spec : {M : Type 1} → statement M
 in-range-spec =
     tie.close
-    (tie.spec
-    (λ c. sym (not-meets (stateRanges _) (λ g. omega arith)))
+    (tie.spec (λ c. sym (not-meets (stateRanges _) (λ g. omega arith)))
     (λ c. sym (not-meets (stateRanges _) (λ g. omega arith)))
     (λ c. sym (not-meets (stateRanges _) (λ g. omega arith)))
     (λ c. sym (not-meets (stateRanges _) (λ g. omega arith)))

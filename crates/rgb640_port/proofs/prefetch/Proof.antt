@@ -8,8 +8,5 @@ use Rattle.rgb640_port.proofs.prefetch.Tie as tie
 pub prefetch-spec : {M : Type 1} → statement M
 prefetch-spec =
     tie.close
-    (tie.spec
-    (λ c κs. search needs)
-    (λ c. search (fetches-entry, needs))
-    (λ c. sym (fetches-nothing _ (λ l h. omega arith) _ _))
-    (λ c. sym (fetches-nothing _ (λ l h. omega arith) _ _)))
+    (tie.spec (λ c κs. search needs) (λ c. search (fetches-entry, needs))
+    (λ c. sym (fetches-nothing _ (λ l h. omega arith) _ _)) (λ c. sym (fetches-nothing _ (λ l h. omega arith) _ _)))

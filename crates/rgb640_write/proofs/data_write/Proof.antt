@@ -11,14 +11,8 @@ ruleset ends = (update-written, palette-written, not-written, stands-range, need
 pub data-write-spec : {M : Type 1} → statement M
 data-write-spec =
     tie.close
-    (tie.spec
-    (λ c. search ends)
-    (λ c. search ends)
-    (λ c. search ends)
-    (λ c. search ends)
-    (λ c. search ends)
-    (λ c. search ends)
-    (λ c. search ends)
+    (tie.spec (λ c. search ends) (λ c. search ends) (λ c. search ends) (λ c. search ends) (λ c. search ends)
+    (λ c. search ends) (λ c. search ends)
     (λ c.
     not-written _ _ _ (search needs) _ (c .before .before .before .before .pre) (c .refused .ensures)
     (c .before .before .match .rest .1)

@@ -8,11 +8,5 @@ ruleset ends = (last-place, red-latched, green-latched, blue-stored, needs)
 pub palette-write-spec : {M : Type 1} → statement M
 palette-write-spec =
     tie.close
-    (tie.spec
-    (λ c. search ends)
-    (λ c. search ends)
-    (λ c. search ends)
-    (λ c. search ends)
-    (λ c. search ends)
-    (λ c. search ends)
-    (λ c. search ends))
+    (tie.spec (λ c. search ends) (λ c. search ends) (λ c. search ends) (λ c. search ends) (λ c. search ends)
+    (λ c. search ends) (λ c. search ends))

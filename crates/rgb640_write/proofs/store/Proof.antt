@@ -19,16 +19,6 @@ returns c = refl
 pub store-spec : {M : Type 1} → statement M
 store-spec =
     tie.close
-    (tie.spec
-    (λ c. search needs)
-    (λ c. search needs)
-    (λ c. search needs)
-    (λ c. search needs)
-    (λ c. search needs)
-    (λ c. search needs)
-    slice-write-table-2
-    (λ c. search needs)
-    (λ c. search needs)
-    slice-write-table-3
-    (λ c. search needs)
-    returns)
+    (tie.spec (λ c. search needs) (λ c. search needs) (λ c. search needs) (λ c. search needs) (λ c. search needs)
+    (λ c. search needs) slice-write-table-2 (λ c. search needs) (λ c. search needs) slice-write-table-3
+    (λ c. search needs) returns)

@@ -8,22 +8,7 @@ ruleset ends = (stopped, low-written, high-written, data-written, no-port, table
 pub zk-c-write-spec : {M : Type 1} → statement M
 zk-c-write-spec =
     tie.close
-    (tie.spec
-    (λ c. search ends)
-    (λ c. search ends)
-    (λ c. search ends)
-    (λ c. search ends)
-    (λ c. search ends)
-    (λ c. search ends)
-    (λ c. search ends)
-    (λ c. search ends)
-    (λ c. search ends)
-    (λ c. search ends)
-    (λ c. search ends)
-    (λ c. search ends)
-    (λ c. search ends)
-    (λ c. search ends)
-    (λ c. search ends)
-    (λ c. search ends)
-    (λ c. search ends)
-    (λ c. search ends))
+    (tie.spec (λ c. search ends) (λ c. search ends) (λ c. search ends) (λ c. search ends) (λ c. search ends)
+    (λ c. search ends) (λ c. search ends) (λ c. search ends) (λ c. search ends) (λ c. search ends)
+    (λ c. search ends) (λ c. search ends) (λ c. search ends) (λ c. search ends) (λ c. search ends)
+    (λ c. search ends) (λ c. search ends) (λ c. search ends))

@@ -8,15 +8,6 @@ ruleset ends = (refused-bad, good-kept, calls-fit, refused-short, done, needs)
 pub sheet-calls-spec : {M : Type 1} → statement M
 sheet-calls-spec =
     tie.close
-    (tie.spec
-    (λ c κs. search needs)
-    (λ c. search ends)
-    (λ c. search needs)
-    (λ c κs. search ends)
-    (λ c. search needs)
-    (λ c. search ends)
-    (λ c. search needs)
-    (λ c κs. (search ends, search ends))
-    (λ c. search needs)
-    (λ c. search needs)
-    (λ c. search ends))
+    (tie.spec (λ c κs. search needs) (λ c. search ends) (λ c. search needs) (λ c κs. search ends)
+    (λ c. search needs) (λ c. search ends) (λ c. search needs) (λ c κs. (search ends, search ends))
+    (λ c. search needs) (λ c. search needs) (λ c. search ends))

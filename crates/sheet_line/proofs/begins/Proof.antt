@@ -19,15 +19,5 @@ ruleset ends = (starts-short, starts-all, starts-on, starts-differ, needs)
 pub begins-spec : {M : Type 1} → statement M
 begins-spec =
     tie.close
-    (tie.spec
-    Inv-loop
-    μ-loop
-    (λ c. search ends)
-    (λ c. search needs)
-    (λ c. search needs)
-    (λ c. search needs)
-    (λ c. search ends)
-    (λ c. search needs)
-    (λ c. search needs)
-    (λ c. search ends)
-    (λ c. search ends))
+    (tie.spec Inv-loop μ-loop (λ c. search ends) (λ c. search needs) (λ c. search needs) (λ c. search needs)
+    (λ c. search ends) (λ c. search needs) (λ c. search needs) (λ c. search ends) (λ c. search ends))

@@ -12,11 +12,6 @@ pub front-len-spec : {M : Type 1} → statement M
 unfolding keyAt front pick
 front-len-spec =
     tie.close
-    (tie.spec
-    (λ c. search fronts)
-    (λ c. search fronts)
-    (λ c. search fronts)
-    (λ c. search fronts)
-    (λ c. search fronts)
-    (λ c. (front-o (c .before .before .args .k) (omega arith) (omega arith), search needs))
+    (tie.spec (λ c. search fronts) (λ c. search fronts) (λ c. search fronts) (λ c. search fronts)
+    (λ c. search fronts) (λ c. (front-o (c .before .before .args .k) (omega arith) (omega arith), search needs))
     (λ c. (front-c (c .before .before .args .k) (omega arith), search needs)))

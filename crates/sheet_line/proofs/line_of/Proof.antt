@@ -11,15 +11,6 @@ ruleset ends = (line-other, line-has, line-not-taken, not-true, not-false, needs
 pub line-of-spec : {M : Type 1} → statement M
 line-of-spec =
     tie.close
-    (tie.spec
-    (λ c. search needs)
-    (λ c. search needs)
-    (λ c. search needs)
-    (λ c. search needs)
-    (λ c. search needs)
-    (λ c. sym (length-take-le _ _ (search needs)))
-    (λ c. search needs)
-    (λ c. search ends)
-    (λ c. search needs)
-    (λ c. search ends)
-    (λ c. search ends))
+    (tie.spec (λ c. search needs) (λ c. search needs) (λ c. search needs) (λ c. search needs) (λ c. search needs)
+    (λ c. sym (length-take-le _ _ (search needs))) (λ c. search needs) (λ c. search ends) (λ c. search needs)
+    (λ c. search ends) (λ c. search ends))

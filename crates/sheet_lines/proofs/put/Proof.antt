@@ -16,16 +16,6 @@ abbrev μ-loop : tie.MeasureT-loop
 pub put-spec : {M : Type 1} → statement M
 put-spec =
     tie.close
-    (tie.spec
-    Inv-loop
-    μ-loop
-    (λ c. search (paste-zero, needs))
-    (λ c. search needs)
-    (λ c. search needs)
-    (λ c. search needs)
-    (λ c. search needs)
-    (λ c. search needs)
-    (λ c. search (paste-on, needs))
-    (λ c. search needs)
-    (λ c. search needs)
-    (λ c. search (paste-all, needs)))
+    (tie.spec Inv-loop μ-loop (λ c. search (paste-zero, needs)) (λ c. search needs) (λ c. search needs)
+    (λ c. search needs) (λ c. search needs) (λ c. search needs) (λ c. search (paste-on, needs)) (λ c. search needs)
+    (λ c. search needs) (λ c. search (paste-all, needs)))

@@ -7,10 +7,7 @@ use Rattle.sheet_lines.proofs.put_line.Tie as tie
 pub put-line-spec : {M : Type 1} → statement M
 put-line-spec =
     tie.close
-    (tie.spec
-    (λ c. search needs)
-    (λ c. search needs)
-    (λ c. sym (length-take-le _ _ (search needs)))
+    (tie.spec (λ c. search needs) (λ c. search needs) (λ c. sym (length-take-le _ _ (search needs)))
     (λ c κs. rw (c .before .before .before .written .ensures .1) (c .before .before .before .before .before .pre))
     (λ c. search needs)
     (λ c.

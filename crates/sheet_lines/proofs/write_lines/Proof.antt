@@ -17,14 +17,6 @@ abbrev μ-loop : tie.MeasureT-loop
 pub write-lines-spec : {M : Type 1} → statement M
 write-lines-spec =
     tie.close
-    (tie.spec
-    Inv-loop
-    μ-loop
-    (λ c. search (first-line, needs))
-    (λ c κs. search needs)
-    (λ c κs. search (line-fits, needs))
-    (λ c. search needs)
-    (λ c. search needs)
-    (λ c. search (next-line, needs))
-    (λ c. search needs)
-    (λ c. search (last-line, needs)))
+    (tie.spec Inv-loop μ-loop (λ c. search (first-line, needs)) (λ c κs. search needs)
+    (λ c κs. search (line-fits, needs)) (λ c. search needs) (λ c. search needs) (λ c. search (next-line, needs))
+    (λ c. search needs) (λ c. search (last-line, needs)))

@@ -46,20 +46,7 @@ returns-2 c = search ends-good
 pub read-spec : {M : Type 1} → statement M
 read-spec =
     tie.close
-    (tie.spec
-    Inv-loop
-    μ-loop
-    loop-holds
-    (λ c κs. search needs)
-    (λ c. search needs)
-    (λ c. search needs)
-    (λ c. search (reads-bad, needs))
-    (λ c. search needs)
-    (λ c. search needs)
-    array-write-kept
-    (λ c. let r = inside c in omega arith)
-    (λ c. search needs)
-    (λ c. let r = inside c in omega arith)
-    loop-again
-    returns-2
-    (λ c. search (ends-bad, needs)))
+    (tie.spec Inv-loop μ-loop loop-holds (λ c κs. search needs) (λ c. search needs) (λ c. search needs)
+    (λ c. search (reads-bad, needs)) (λ c. search needs) (λ c. search needs) array-write-kept
+    (λ c. let r = inside c in omega arith) (λ c. search needs) (λ c. let r = inside c in omega arith) loop-again
+    returns-2 (λ c. search (ends-bad, needs)))

@@ -13,11 +13,5 @@ pub first-line-spec : {M : Type 1} → statement M
 unfolding keyAt front pick
 first-line-spec =
     tie.close
-    (tie.spec
-    (λ c. search needs)
-    (λ c. search needs)
-    (λ c. search lines)
-    (λ c. search lines)
-    (λ c. search lines)
-    (λ c. search lines)
-    (λ c. let e : c .before .before .before .args .k ≡ 4 = omega arith in search lines))
+    (tie.spec (λ c. search needs) (λ c. search needs) (λ c. search lines) (λ c. search lines) (λ c. search lines)
+    (λ c. search lines) (λ c. let e : c .before .before .before .args .k ≡ 4 = omega arith in search lines))

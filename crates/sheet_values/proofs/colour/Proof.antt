@@ -9,18 +9,6 @@ ruleset fits = (one-fits, shifted-fits, two-fit, both-fit, three-fit, needs)
 pub colour-spec : {M : Type 1} → statement M
 colour-spec =
     tie.close
-    (tie.spec
-    (λ c. search needs)
-    (λ c. search needs)
-    (λ c. search fits)
-    (λ c. search needs)
-    (λ c. search needs)
-    (λ c. search fits)
-    (λ c. search needs)
-    (λ c. search needs)
-    (λ c. search fits)
-    (λ c. search fits)
-    (λ c. search fits)
-    (λ c. search fits)
-    (λ c. search fits)
-    (λ c. search (colour-at, needs)))
+    (tie.spec (λ c. search needs) (λ c. search needs) (λ c. search fits) (λ c. search needs) (λ c. search needs)
+    (λ c. search fits) (λ c. search needs) (λ c. search needs) (λ c. search fits) (λ c. search fits)
+    (λ c. search fits) (λ c. search fits) (λ c. search fits) (λ c. search (colour-at, needs)))

@@ -18,13 +18,5 @@ ruleset turns = (none-over, over-here, over-on, needs)
 pub over-fifteen-spec : {M : Type 1} → statement M
 over-fifteen-spec =
     tie.close
-    (tie.spec
-    Inv-loop
-    μ-loop
-    (λ c. search needs)
-    (λ c. search needs)
-    (λ c. search turns)
-    (λ c. search needs)
-    (λ c. search needs)
-    (λ c. search turns)
-    (λ c. search turns))
+    (tie.spec Inv-loop μ-loop (λ c. search needs) (λ c. search needs) (λ c. search turns) (λ c. search needs)
+    (λ c. search needs) (λ c. search turns) (λ c. search turns))

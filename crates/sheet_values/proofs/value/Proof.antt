@@ -12,20 +12,8 @@ pub value-spec : {M : Type 1} → statement M
 unfolding values
 value-spec =
     tie.close
-    (tie.spec
-    (λ c. search needs)
-    (λ c. search needs)
-    (λ c. search needs)
-    (λ c. search needs)
-    (λ c. search needs)
-    (λ c. search needs)
-    (λ c κs. search needs)
-    (λ c. search needs)
-    (λ c κs. search needs)
-    (λ c. search listed)
-    (λ c. search listed)
-    (λ c. search listed)
-    (λ c. search listed)
-    (λ c. search listed)
+    (tie.spec (λ c. search needs) (λ c. search needs) (λ c. search needs) (λ c. search needs) (λ c. search needs)
+    (λ c. search needs) (λ c κs. search needs) (λ c. search needs) (λ c κs. search needs) (λ c. search listed)
+    (λ c. search listed) (λ c. search listed) (λ c. search listed) (λ c. search listed)
     (λ c. let entry : 5 ≤ c .before .before .before .before .before .before .args .k = omega arith in search listed)
     (λ c. search listed))

@@ -17,14 +17,6 @@ ready c = search takes-it
 pub write-sheet-spec : {M : Type 1} → statement M
 write-sheet-spec =
     tie.close
-    (tie.spec
-    (λ c. search needs)
-    (λ c. search ends)
-    (λ c. search needs)
-    (λ c. search ends)
-    (λ c. search needs)
-    (λ c. search ends)
-    (λ c. search ends)
-    (λ c κs. (ready (c .before), search needs))
-    (λ c. search needs)
+    (tie.spec (λ c. search needs) (λ c. search ends) (λ c. search needs) (λ c. search ends) (λ c. search needs)
+    (λ c. search ends) (λ c. search ends) (λ c κs. (ready (c .before), search needs)) (λ c. search needs)
     (λ c. search ends))

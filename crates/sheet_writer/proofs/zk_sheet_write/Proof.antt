@@ -7,8 +7,5 @@ use Rattle.sheet_writer.proofs.zk_sheet_write.Tie as tie
 pub zk-sheet-write-spec : {M : Type 1} → statement M
 zk-sheet-write-spec =
     tie.close
-    (tie.spec
-    (λ c. search needs)
-    (λ c. search needs)
-    (λ c. search needs)
+    (tie.spec (λ c. search needs) (λ c. search needs) (λ c. search needs)
     (λ c. c .told .ensures _ ∙ ap telling (c .before .before .before .write-sheet .ensures)))

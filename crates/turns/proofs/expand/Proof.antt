@@ -6,10 +6,5 @@ use Rattle.turns.proofs.expand.Tie as tie
 pub expand-spec : {M : Type 1} → statement M
 expand-spec =
     tie.close
-    (tie.spec
-    (λ c κs. search needs)
-    (λ c κs. search needs)
-    (λ c. search six-told)
-    (λ c κs. search needs)
-    (λ c κs. search needs)
-    (λ c. search eight-told))
+    (tie.spec (λ c κs. search needs) (λ c κs. search needs) (λ c. search six-told) (λ c κs. search needs)
+    (λ c κs. search needs) (λ c. search eight-told))

@@ -6,10 +6,5 @@ use Rattle.turns.proofs.ten.Tie as tie
 pub ten-spec : {M : Type 1} → statement M
 ten-spec =
     tie.close
-    (tie.spec
-    (λ c. search needs)
-    (λ c κs. search needs)
-    (λ c. search needs)
-    (λ c κs. search needs)
-    (λ c. search expanded-as)
-    (λ c. search expanded-as))
+    (tie.spec (λ c. search needs) (λ c κs. search needs) (λ c. search needs) (λ c κs. search needs)
+    (λ c. search expanded-as) (λ c. search expanded-as))

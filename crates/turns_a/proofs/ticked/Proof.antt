@@ -6,7 +6,4 @@ use Rattle.turns_a.proofs.ticked.Tie as tie
 pub ticked-spec : {M : Type 1} → statement M
 ticked-spec =
     tie.close
-    (tie.spec
-    (λ c κs. search needs)
-    (λ c κs. search needs)
-    (λ c. search tick-done))
+    (tie.spec (λ c κs. search needs) (λ c κs. search needs) (λ c. search tick-done))

@@ -9,24 +9,8 @@ ruleset arms = (at-call, took-bad, took-done, took-valued, same-chip, reset-done
 pub c-turn-spec : {M : Type 1} → statement M
 c-turn-spec =
     tie.close
-    (tie.spec
-    (λ c. search needs)
-    (λ c κs. search needs)
-    (λ c κs. search needs)
-    (λ c. search needs)
-    (λ c κs. search needs)
-    (λ c κs. search needs)
-    (λ c. search needs)
-    (λ c κs. search needs)
-    (λ c κs. search needs)
-    (λ c. search needs)
-    (λ c κs. search needs)
-    (λ c. search needs)
-    (λ c κs. search needs)
-    (λ c. search needs)
-    (λ c. search arms)
-    (λ c. search needs)
-    (λ c. search arms)
-    (λ c. search arms)
-    (λ c. search arms)
+    (tie.spec (λ c. search needs) (λ c κs. search needs) (λ c κs. search needs) (λ c. search needs)
+    (λ c κs. search needs) (λ c κs. search needs) (λ c. search needs) (λ c κs. search needs) (λ c κs. search needs)
+    (λ c. search needs) (λ c κs. search needs) (λ c. search needs) (λ c κs. search needs) (λ c. search needs)
+    (λ c. search arms) (λ c. search needs) (λ c. search arms) (λ c. search arms) (λ c. search arms)
     (λ c. search arms))

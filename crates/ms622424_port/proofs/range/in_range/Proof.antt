@@ -19,12 +19,7 @@ returns-7 c =
 pub in-range-spec : {M : Type 1} → statement M
 in-range-spec =
     tie.close
-    (tie.spec
-    (λ c. sym (not-meets _ (λ g. omega arith)))
-    (λ c. sym (not-meets _ (λ g. omega arith)))
-    (λ c. sym (not-meets _ (λ g. omega arith)))
-    (λ c. sym (not-meets _ (λ g. omega arith)))
-    (λ c. sym (not-meets _ (λ g. omega arith)))
-    (λ c. sym (not-meets _ (λ g. omega arith)))
-    (λ c κs. search needs)
+    (tie.spec (λ c. sym (not-meets _ (λ g. omega arith))) (λ c. sym (not-meets _ (λ g. omega arith)))
+    (λ c. sym (not-meets _ (λ g. omega arith))) (λ c. sym (not-meets _ (λ g. omega arith)))
+    (λ c. sym (not-meets _ (λ g. omega arith))) (λ c. sym (not-meets _ (λ g. omega arith))) (λ c κs. search needs)
     returns-7)

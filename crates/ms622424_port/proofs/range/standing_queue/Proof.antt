@@ -19,8 +19,5 @@ returns-3 c =
 pub standing-queue-spec : {M : Type 1} → statement M
 standing-queue-spec =
     tie.close
-    (tie.spec
-    (λ c. stands-short _ _ (not-fails _ (λ g. c .if1 .taken (g .0))))
-    (λ c κs. search needs)
-    returns-2
+    (tie.spec (λ c. stands-short _ _ (not-fails _ (λ g. c .if1 .taken (g .0)))) (λ c κs. search needs) returns-2
     returns-3)
