@@ -1,4 +1,5 @@
--- What lines leave as it is: an expansion and a bad line everything, a chosen chip everything but that. Assumes nothing.
+-- What lines leave as it is: an expansion and a bad line everything, a chosen chip everything but that. Assumes
+-- nothing.
 use Prim.Native.Nat.{ℕ}
 use mathlib.Core.Path.{_≡_, refl}
 use Rattle.log.specs.declared.Chip as L

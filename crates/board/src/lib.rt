@@ -1,5 +1,5 @@
-// A board with one chip A, one B and one C: the states that a caller keeps, the definitions of what a log line does, and
-// their laws.
+// A board with one chip A, one B and one C: the states that a caller keeps, the definitions of what a log line does,
+// and their laws.
 //
 // The replay's description decides; specs/Board.antt says what a line does to the whole board (`boardTurn`) and how it
 // starts (`started`). The code stands in crates of its own: board_start, board_call, board_sheet and, of any line,

@@ -1,7 +1,7 @@
 // A log line's call made on the chip chosen last.
 //
-// The replay's description decides; the rule is `chipTurn` of board's specs/Board.antt. The tables are lent. Not modelled:
-// as there.
+// The replay's description decides; the rule is `chipTurn` of board's specs/Board.antt. The tables are lent. Not
+// modelled: as there.
 use board::Board;
 use board::Step;
 use log::Call;

@@ -1,7 +1,7 @@
 // The sheet line: chip A's sheet on the page, or its refusal; bad on the chips that have none.
 //
-// The replay's description decides; the rule is `sheetTurn` of board's specs/Board.antt. The page is lent, and the tables
-// are. Not modelled: as there.
+// The replay's description decides; the rule is `sheetTurn` of board's specs/Board.antt. The page is lent, and the
+// tables are. Not modelled: as there.
 use board::Board;
 use board::Step;
 use log::Chip;

@@ -1,7 +1,7 @@
 // The board at the start of a replay.
 //
-// The replay's description decides; the rule is `started` of board's specs/Board.antt: every state as a reset leaves it,
-// chip B's revision 3 and board number 5, chip A chosen. Not modelled: as there.
+// The replay's description decides; the rule is `started` of board's specs/Board.antt: every state as a reset leaves
+// it, chip B's revision 3 and board number 5, chip A chosen. Not modelled: as there.
 use board::Board;
 use hd153108::State as AState;
 use log::Chip;

@@ -7,6 +7,8 @@ use mathlib.Core.List.{List, []}
 use lib.ListN.{length, take}
 use borrow.Author.Tests.{ltb-true, ltb-false}
 use Rattle.vocabulary.specs.Choice.{pick}
+use Rattle.ms622424_places.specs.Places.{Handed, handed, Same}
+use Rattle.ms622424_places.proofs.Determined.{same-self}
 use Rattle.answers.specs.Answers.{Says}
 use Rattle.turns.specs.Turns.{turn, Took}
 use Rattle.board.specs.declared.Board.{Board}
@@ -49,3 +51,13 @@ module _ (r : Fed) {s : Step} {k : Heard} (t bytes : List ℕ) (h : Hold) (cs os
         says = says-text b (s .text) page u;
         leaves = ap (desk (whole b cs os queue map table page)) m;
       })
+
+-- chip B's bytes
+module _ (r : Fed) {s : Step} (e : r .step ≡ s) where
+  pub same-line : {given : Handed} {queue map : List ℕ} → Same given (handed (s .board .b) queue map)
+      → Same given (handed (r .step .board .b) queue map)
+  same-line h = rw e h
+
+  pub same-part : (b : Board) (queue map : List ℕ) → s .board ≡ b
+      → Same (handed (b .b) queue map) (handed (r .step .board .b) queue map)
+  same-part b queue map f = rw (e, f) (same-self _)

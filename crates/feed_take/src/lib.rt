@@ -1,7 +1,7 @@
 // A log's bytes put to a board, up to the first LF.
 //
-// The rule is `fed` of feed's specs/Feed.antt: `take` equals it for what it takes, for any board, hold, text, tables and
-// page. All of them are lent but the board's states. Not modelled: as there.
+// The rule is `fed` of feed's specs/Feed.antt: `take` equals it for what it takes, for any board, hold, text, tables
+// and page. All of them are lent but the board's states. Not modelled: as there.
 use board::Board;
 use board::Step;
 use hold::Heard;
@@ -12,6 +12,7 @@ ghost use Rattle.answers.specs.Answers.{Says};
 ghost use Rattle.board.specs.Board.{whole};
 ghost use Rattle.hold.specs.Hold.{hold as held, upTo};
 ghost use Rattle.feed.specs.Feed.{desk, fed};
+ghost use Rattle.ms622424_places.specs.Places.{handed, Same};
 ghost use Rattle.feed_take.specs.Fed.{FedTook};
 
 // The board after some bytes with what they answer, how many bytes of a line are held, and how many were taken.
@@ -62,6 +63,8 @@ pub fn take(
         (fed (firstOf (upTo (now (text .entry))) (now (text .entry)))
         (desk (whole board (now (colours .entry)) (now (overlays .entry)) (now (queue .entry))
         (now (map .entry)) (now (table .entry)) (now (page .entry))) (held (now (hold .entry)) len))) ⌝ }
+    ensures { λ r. ⌜ Same (handed (board .b) (now (queue .entry)) (now (map .entry)))
+        (handed (r .step .board .b) (now (queue .exit)) (now (map .exit))) ⌝ }
 {
     let h = hold::hear(text, hold, len);
     if h.ends {

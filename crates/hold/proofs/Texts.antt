@@ -84,7 +84,8 @@ module _ (t : List ℕ) where
       (λ e. rw (picks-second (before t + 1) (before t) e) (before-inside t))
 
 -- what was heard, where a line ended and where none did
-module _ (t bytes : List ℕ) (h : Hold) {n len : ℕ} {line : Line} (is : n ≡ before t) (holds : hold bytes len ≡ heldOf t h)
+module _ (t bytes : List ℕ) (h : Hold) {n len : ℕ} {line : Line} (is : n ≡ before t)
+    (holds : hold bytes len ≡ heldOf t h)
     (says : line ≡ lineOf (take len bytes)) where
   pub hears-line : n < length t → Hears (record { line = line; ends = true; len = 0; taken = n + 1 }) t h bytes
   unfolding upTo pick

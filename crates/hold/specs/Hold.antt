@@ -29,7 +29,8 @@ unfoldable pub holdingAll : List ℕ → Hold → Hold
 holdingAll [] h = h
 holdingAll (b ∷ bs) h = holdingAll bs (holding b h)
 
--- how many bytes of a text stand before its first LF, 10, and how many up to it, that with them; where there is none, all
+-- how many bytes of a text stand before its first LF, 10, and how many up to it, that with them; where there is none,
+-- all
 unfoldable pub before : List ℕ → ℕ
 before [] = 0
 before (b ∷ bs) = pick (eqb b 10) 0 (suc (before bs))

@@ -68,8 +68,7 @@ kept-once h g l r e =
 ordered : (k : Call) (h : Handed) (o : Outcome Handed) → Does h o (called k) → o .refusal ≡ 0
     → (length (o .left .queue) ≡ 64) × (right (o .left .state .fifo) (o .left .queue) ≡ true)
 ordered k h o a e =
-    let order = accepted-in-order k (view h) (ap (λ (x : Outcome Chip). x .refusal) (sym (a .chip)) ∙ e) in
-    (
+    let order = accepted-in-order k (view h) (ap (λ (x : Outcome Chip). x .refusal) (sym (a .chip)) ∙ e) in (
       ap (λ (x : Outcome Chip). x .left .lent .places) (a .chip) ∙ order .0,
       ap (λ (x : Outcome Chip). x .left .lent .right) (a .chip) ∙ order .1,
     )

@@ -32,10 +32,9 @@ fn restart(s: State) -> State
 {
     let mut n = s;
     n.place = 0;
-    if s.update & 2 != 0 {
-        return n;
+    if s.update & 2 == 0 {
+        n.index = next_index(s.index);
     }
-    n.index = next_index(s.index);
     n
 }
 

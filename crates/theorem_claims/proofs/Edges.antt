@@ -15,7 +15,8 @@ use Rattle.vocabulary.proofs.Range.{passes-holds}
 use Rattle.expand.specs.Expand.{ten}
 use Rattle.expand.proofs.Width.{expansion-accepted}
 use Rattle.ms622424.specs.Ms622424.{Chip, chip, port, control, Entry, InRange, inMap, places, fresh, registerAt}
-use Rattle.ms622424.specs.Ms622424.{readable, answers, activeLow, mark, statusOf, statusByte, resets, refusals, does, called}
+use Rattle.ms622424.specs.Ms622424.{readable, answers, activeLow, mark, statusOf, statusByte}
+use Rattle.ms622424.specs.Ms622424.{resets, refusals, does, called}
 use Rattle.ms622424.proofs.Read.{read-does}
 use Rattle.ms622424.proofs.Kept.{fresh-in-range}
 use Rattle.theorem_claims.specs.Edges.{Answers, Fresh, Status, Edges}

@@ -10,7 +10,8 @@ use Rattle.rgb640.specs.Rgb640.{Chip, chip, at, next, increments, Direction, wr
 use Rattle.rgb640.specs.Rgb640.{Transfer, threeBytes, follows, restarted, stepped, taken, paletteTaken, paletteTold}
 use Rattle.rgb640.specs.Rgb640.{fetchesNothing, fetchesEntry, Space, updateControl, paletteWrite, paletteRead}
 use Rattle.rgb640.specs.Rgb640.{nowhere, spaceOf, Register, indexLow, indexHigh, indexData, notServed, registerAt}
-use Rattle.rgb640.specs.Rgb640.{served, dataWritten, wrote, dataRead, told, answers, writes, reads, refusals, does, called}
+use Rattle.rgb640.specs.Rgb640.{served, dataWritten, wrote, dataRead, told, answers}
+use Rattle.rgb640.specs.Rgb640.{writes, reads, refusals, does, called}
 use Rattle.rgb640.proofs.Index.{space-holds}
 use Rattle.theorem_claims.specs.MovesC.{PlaceAlone, PaletteAlone, RegisterAlone, DataWriteLeaves}
 use Rattle.theorem_claims.specs.MovesC.{DataReadLeaves, WriteLeaves, ReadLeaves}

@@ -1,5 +1,5 @@
--- NO CHIP LOCKS ITSELF OUT: a call on a chip in range leaves it in range. Said once, of the face of any chip: its calls,
--- what is in range, which tables are short, what is outside, and its reset.
+-- NO CHIP LOCKS ITSELF OUT: a call on a chip in range leaves it in range. Said once, of the face of any chip: its
+-- calls, what is in range, which tables are short, what is outside, and its reset.
 use mathlib.Core.Path.{_≡_}
 use mathlib.Core.Bool.{Bool, false}
 use Rattle.vocabulary.specs.Outcome.{Outcome}

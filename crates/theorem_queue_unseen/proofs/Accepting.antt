@@ -49,4 +49,5 @@ module _ (c : Chip) (h : InRange c) where
 
   -- a pixel
   pub pixel-accepted : (mode word : ℕ) → mode < 4 → word < 2 ^ 24 → Accepted called (pixels mode word) c
-  pixel-accepted mode word m w = ap (λ (o : Outcome Chip). o .refusal) (sym (pixel-does mode word c h m w refl refl refl))
+  pixel-accepted mode word m w =
+      ap (λ (o : Outcome Chip). o .refusal) (sym (pixel-does mode word c h m w refl refl refl))

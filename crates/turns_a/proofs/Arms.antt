@@ -44,5 +44,6 @@ module _ (cs os : List ℕ) where
       took-done (ap (λ (o : Outcome Clock). putBack o c) e ∙ sym (tick-lent c)) refl h
 
   pub at-tick : (s : State) {t : ATurn} {call : CallA} → call ≡ Tick
-      → ((xs ys : List ℕ) → ATook t xs ys (done (called ticks (chip s xs ys)))) → ATook t cs os (aOwn call (chip s cs os))
+      → ((xs ys : List ℕ) → ATook t xs ys (done (called ticks (chip s xs ys))))
+      → ATook t cs os (aOwn call (chip s cs os))
   at-tick s m h = rw m (h cs os)

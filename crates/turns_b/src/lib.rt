@@ -1,8 +1,8 @@
 // A log line's call made on chip B, and the line that answers it.
 //
-// The replay's description decides; specs/Turns.antt says which call of the chip is made and how its outcome is told, of
-// the chip that the state and the lent tables are (`view`). The queue and the map are lent, the state goes in and comes
-// back by value.
+// The replay's description decides; specs/Turns.antt says which call of the chip is made and how its outcome is told,
+// of the chip that the state and the lent tables are (`view`). The queue and the map are lent, the state goes in and
+// comes back by value.
 use answers::News;
 use answers::Text;
 use log::Call;

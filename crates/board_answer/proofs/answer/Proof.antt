@@ -15,5 +15,6 @@ answer-spec =
     (λ c κs. search needs) (λ c κs. search needs) (λ c. search needs) (λ c κs. search needs) (λ c κs. search needs)
     (λ c. search needs) (λ c κs. search needs) (λ c. search needs) (λ c κs. search needs) (λ c κs. search needs)
     (λ c. search needs) (λ c. search needs) (λ c. search needs) (λ c. search needs) (λ c. search needs)
-    (λ c. (search arms, search bytes)) (λ c. (search arms, search bytes)) (λ c. (search arms, search bytes)) (λ c. search needs) (λ c. search needs)
-    (λ c. search needs) (λ c. (search arms, search bytes)) (λ c. (search arms, search bytes)))
+    (λ c. (search arms, search bytes)) (λ c. (search arms, search bytes)) (λ c. (search arms, search bytes))
+    (λ c. search needs) (λ c. search needs) (λ c. search needs) (λ c. (search arms, search bytes))
+    (λ c. (search arms, search bytes)))

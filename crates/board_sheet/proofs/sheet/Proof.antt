@@ -10,5 +10,5 @@ pub sheet-spec : {M : Type 1} → statement M
 sheet-spec =
     tie.close
     (tie.spec (λ c. search needs) (λ c κs. search needs) (λ c. search needs) (λ c κs. search needs)
-    (λ c. search needs) (λ c κs. search needs) (λ c. search needs) (λ c. (search arms, search needs)) (λ c. (search arms, search needs))
-    (λ c. (search arms, search needs)))
+    (λ c. search needs) (λ c κs. search needs) (λ c. search needs) (λ c. (search arms, search needs))
+    (λ c. (search arms, search needs)) (λ c. (search arms, search needs)))

@@ -1,6 +1,6 @@
--- `zk_a_tick` meets its contract: a walk of its code, by hand. The borrow is opened, the two numbers are read and passed
--- to `step`, the position that came back is stored, and the borrow is closed at the new clock. All that the proof knows
--- of `step` is that it meets its contract. Assumes nothing.
+-- `zk_a_tick` meets its contract: a walk of its code, by hand. The borrow is opened, the two numbers are read and
+-- passed to `step`, the position that came back is stored, and the borrow is closed at the new clock. All that the
+-- proof knows of `step` is that it meets its contract. Assumes nothing.
 use mathlib.Core.Path.{_≡_, refl, ap}
 use Prim.Native.Nat.{ℕ, _<_, _^_}
 use mathlib.Core.List.{[], _∷_, List}

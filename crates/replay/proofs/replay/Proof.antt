@@ -8,7 +8,8 @@ use Rattle.replay.proofs.replay.Statement.{statement}
 use Rattle.replay.proofs.replay.Tie as tie
 
 abbrev Inv-loop : tie.InvT-loop
-Inv-loop chunk₀ hold₀ colours₀ overlays₀ queue₀ map₀ table₀ page₀ out₀ s₀ chunk hold colours overlays queue map table page out s =
+Inv-loop chunk₀ hold₀ colours₀ overlays₀ queue₀ map₀ table₀ page₀ out₀ s₀ chunk hold colours overlays queue map table
+    page out s =
     (length chunk ≡ length chunk₀)
     × (length hold ≡ length hold₀)
     × (length colours ≡ length colours₀)
@@ -20,7 +21,8 @@ Inv-loop chunk₀ hold₀ colours₀ overlays₀ queue₀ map₀ table₀ page�
     × (length out ≡ length out₀)
 
 abbrev μ-loop : tie.MeasureT-loop
-μ-loop chunk₀ hold₀ colours₀ overlays₀ queue₀ map₀ table₀ page₀ out₀ s₀ chunk hold colours overlays queue map table page out s = s .turns
+μ-loop chunk₀ hold₀ colours₀ overlays₀ queue₀ map₀ table₀ page₀ out₀ s₀ chunk hold colours overlays queue map table page
+    out s = s .turns
 
 -- points of a turn of the loop, back from its end: the answer is put out, the text was taken, the next was read
 abbrev paged : tie.After-taken Inv-loop μ-loop → tie.After-page Inv-loop μ-loop

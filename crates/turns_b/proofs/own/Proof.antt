@@ -14,5 +14,5 @@ own-spec =
     tie.close
     (tie.spec (λ c. search needs) (λ c κs. search needs) (λ c κs. search needs) (λ c. search needs)
     (λ c κs. search needs) (λ c κs. search needs) (λ c. search needs) (λ c κs. search needs) (λ c. search needs)
-    (λ c. search needs) (λ c. (search arms, search bytes)) (λ c. search needs) (λ c. search needs) (λ c. (search arms, search bytes))
-    (λ c. search needs) (λ c. (search arms, search bytes)))
+    (λ c. search needs) (λ c. (search arms, search bytes)) (λ c. search needs) (λ c. search needs)
+    (λ c. (search arms, search bytes)) (λ c. search needs) (λ c. (search arms, search bytes)))
