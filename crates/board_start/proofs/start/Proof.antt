@@ -7,4 +7,4 @@ pub start-spec : {M : Type 1} → statement M
 start-spec =
     tie.close
     (tie.spec (λ c κs. search needs) (λ c κs. search needs) (λ c κs. search needs) (λ c. search needs)
-    (λ c. search starts))
+    (λ c. (search starts, search needs)))
