@@ -1,6 +1,4 @@
-use native.Mathlib.Omega.{arith}
-use Rattle.vocabulary.specs.Component.{componentAt}
-use Rattle.ms622424.specs.Ms622424.{Chip, InRange, registerAt, readable, answers, bufferByte, bufferStepped, stepped}
+use Rattle.ms622424.specs.Ms622424.{Chip, InRange, registerAt, readable, answers}
 use Rattle.ms622424.proofs.InRange.{past, tried}
 use Rattle.ms622424_places.specs.Places.{handed, view}
 use Rattle.ms622424_places.proofs.Does.{refuses}
@@ -16,22 +14,16 @@ given c = view (handed (c .args .s) (c .args .queue .now) (c .args .map .now))
 known : (c : tie.Else1) → InRange (given (c .before .before .before .before))
 known c = past _ (c .before .standing-tables .ensures) (c .if1 .left)
 
-read-palette-requires : tie.Need-read-palette-requires
-read-palette-requires c κs =
-    let h = known (c .before .before .before .before .before) in (h .size, h .address, h .counter)
+ruleset served = (known, ends, needs)
 
 pub zk-b-read-spec : {M : Type 1} → statement M
-unfolding registerAt readable answers bufferByte bufferStepped stepped componentAt
+unfolding registerAt readable answers
 zk-b-read-spec =
     tie.close
     (tie.spec (λ c κs. search needs) (λ c κs. search needs) (λ c. search (refuses, tried, needs))
-    (λ c. search needs) (λ c κs. search needs) (λ c. search needs) (λ c κs. search needs) (λ c κs. search needs)
-    (λ c. search (known, ends, needs)) (λ c κs. search needs) (λ c. search (known, ends, needs))
-    read-palette-requires (λ c κs. search needs) (λ c κs. known (c .before) .counter) (λ c κs. search needs)
-    (λ c κs. search needs) (λ c κs. search needs) (λ c κs. search needs)
-    (λ c. omega (arith, known (c .before .before))) (λ c. omega (arith, known (c .before .before .before)))
-    (λ c κs. search needs) (λ c κs. search needs) (λ c κs. search needs) (λ c. search (known, ends, needs))
-    (λ c. search (known, ends, needs)) (λ c. search (known, ends, needs)) (λ c. search (known, ends, needs))
-    (λ c. search (known, ends, needs)) (λ c. search (known, ends, needs)) (λ c. search (known, ends, needs))
-    (λ c. search (known, ends, needs)) (λ c. search (known, ends, needs)) (λ c. search (known, ends, needs))
-    (λ c. search (known, ends, needs)))
+    (λ c. search needs) (λ c κs. search needs) (λ c. search needs) (λ c κs. search needs)
+    (λ c κs. let h = known (c .before) in (h .size, h .address, h .counter)) (λ c κs. search needs)
+    (λ c κs. known (c .before) .counter) (λ c κs. search needs) (λ c κs. search needs)
+    (λ c κs. let h = known (c .before) in (h .board, h .revision)) (λ c κs. search needs) (λ c κs. search needs)
+    (λ c. search served) (λ c. search served) (λ c. search served) (λ c. search served) (λ c. search served)
+    (λ c. search served) (λ c. search served) (λ c. search served) (λ c. search served))

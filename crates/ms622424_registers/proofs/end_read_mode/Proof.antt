@@ -1,0 +1,11 @@
+use Rattle.ms622424.specs.Ms622424.{registerAt, readable, answers}
+use Rattle.ms622424_registers.proofs.Arms.{register-served}
+use borrow.Author.Needs.{needs}
+use Rattle.ms622424_registers.proofs.end_read_mode.Statement.{statement}
+use Rattle.ms622424_registers.proofs.end_read_mode.Tie as tie
+
+pub end-read-mode-spec : {M : Type 1} → statement M
+unfolding registerAt readable answers
+end-read-mode-spec =
+    tie.close
+    (tie.spec (λ c κs. search needs) (λ c q m h. search (register-served, needs)))
