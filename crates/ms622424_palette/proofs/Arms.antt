@@ -1,32 +1,11 @@
--- How a palette write's parts end, as the code knows it: room by the state's count, a byte by the counter. Assumes
--- nothing.
+-- How a byte for the palette ends, by the counter, as the code knows it. Assumes nothing.
 use Prim.Native.Nat.{ℕ, _+_, _%_}
-use mathlib.Core.Path.{_≡_, refl, sym, ap, _∙_}
-use mathlib.Core.List.{List}
+use mathlib.Core.Path.{_≡_, refl, ap}
 use native.Mathlib.Omega.{arith}
-use lib.ListN.{length}
 use Rattle.vocabulary.specs.Component.{red, green}
-use Rattle.ms622424.specs.Ms622424.{Chip, InRange, Moves, made, moves, roomMade}
-use Rattle.ms622424.specs.Ms622424.{selected, stepped, port, withPort, taken, complete, completed}
+use Rattle.ms622424.specs.Ms622424.{Chip, selected, stepped, port, withPort, taken, complete, completed}
 use Rattle.ms622424.proofs.Access.{is-red, is-green, is-blue}
-use Rattle.ms622424.proofs.Moves.{room-forced, room-left}
-use Rattle.ms622424_places.specs.declared.State.{State}
-use Rattle.ms622424_places.specs.Places.{colours, handed, view}
-use Rattle.ms622424_places.proofs.Places.{how-many}
 
--- ---- room for the incoming data, by the state's count
-module _ (s : State) (q m : List ℕ) (h : InRange (view (handed s q m))) where
-  many : length (colours (s .fifo) q) ≡ s .fifo .waiting
-  many = how-many (s .fifo) q (h .right) (h .places)
-
-  pub forced : {x : Moves} → s .fifo .waiting ≡ 64 → x ≡ moves 4 (view (handed s q m))
-      → x ≡ roomMade (view (handed s q m))
-  forced e f = f ∙ sym (room-forced _ (many ∙ e))
-
-  pub has : (s .fifo .waiting ≡ 64 → ⊥) → made 0 (view (handed s q m)) ≡ roomMade (view (handed s q m))
-  has e = sym (room-left _ (λ f. e (sym many ∙ f)))
-
--- ---- a byte for the palette, by the counter
 module _ (c : Chip) (byte : ℕ) where
   pub takes-red : c .port .counter ≡ 0 → taken red byte c ≡ taken (selected (c .port)) byte c
   takes-red e = rw (is-red e) refl

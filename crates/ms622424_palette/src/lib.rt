@@ -1,10 +1,9 @@
 // The MS622424's color palette, as a write finds it that is not refused: room in the queue, then the byte.
 //
 // Source document 004, "Write FIFO", and document 01, "Chip B", decide; ms622424's
-// specs/Ms622424.antt says it (`roomMade`, `taken`). Not modelled: what the output shows during a transfer.
+// specs/Ms622424.antt says it (`written`, `taken`). Not modelled: what the output shows during a transfer.
 use ms622424::Port;
 use ms622424_places::Answer;
-use ms622424_places::Moved;
 use ms622424_places::State;
 use ms622424_port::accepted;
 ghost use mathlib.Core.Path.{_≡_};
@@ -12,20 +11,8 @@ ghost use mathlib.Core.Bool.{true};
 ghost use mathlib.Core.List.{List};
 ghost use Prim.Native.Nat.{ℕ, _<_};
 ghost use lib.ListN.{length};
-ghost use Rattle.ms622424.specs.Ms622424.{InRange, made, roomMade, selected, taken, palette, written};
+ghost use Rattle.ms622424.specs.Ms622424.{InRange, selected, taken, palette, written};
 ghost use Rattle.ms622424_places.specs.Places.{right, handed, view, outcome, seen};
-
-// A full queue makes room for four entries.
-fn make_room(s: State, queue: &mut [u64], map: &mut [u8]) -> Moved
-    requires { ⌜ InRange (view (handed s (now queue) (now map))) ⌝ }
-    ensures { λ r. ⌜ made (r .count) (view (handed (r .state) (now (queue .exit)) (now (map .exit))))
-        ≡ roomMade (view (handed s (now (queue .entry)) (now (map .entry)))) ⌝ }
-{
-    if s.fifo.waiting == 64 {
-        return ms622424_transfer::transfer(s, 4, queue, map);
-    }
-    Moved { count: 0, state: s }
-}
 
 // A byte for the palette, with room in the queue: red and green go to the buffer, blue completes.
 fn take_byte(s: State, byte: u8, queue: &mut [u64]) -> State
@@ -72,6 +59,6 @@ pub fn write_palette(s: State, byte: u8, queue: &mut [u64], map: &mut [u8]) -> A
     ensures { λ r. ⌜ seen (outcome r (now (queue .exit)) (now (map .exit)))
         ≡ written palette byte (view (handed s (now (queue .entry)) (now (map .entry)))) ⌝ }
 {
-    let m = make_room(s, queue, map);
+    let m = ms622424_room::make_room(s, queue, map);
     accepted(0, m.count, take_byte(m.state, byte, queue))
 }

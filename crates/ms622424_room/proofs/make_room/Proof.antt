@@ -1,7 +1,7 @@
-use Rattle.ms622424_palette.proofs.Arms.{forced, has}
+use Rattle.ms622424_room.proofs.Arms.{forced, has}
 use borrow.Author.Needs.{needs}
-use Rattle.ms622424_palette.proofs.make_room.Statement.{statement}
-use Rattle.ms622424_palette.proofs.make_room.Tie as tie
+use Rattle.ms622424_room.proofs.make_room.Statement.{statement}
+use Rattle.ms622424_room.proofs.make_room.Tie as tie
 
 pub make-room-spec : {M : Type 1} → statement M
 make-room-spec =
