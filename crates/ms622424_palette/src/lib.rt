@@ -1,4 +1,4 @@
-// The MS622424's color palette, as a write finds it that is not refused: room in the queue, then the byte.
+// The MS622424's Color Palette Buffer, as a write finds it: refused in read mode, else room in the queue, then the byte.
 //
 // Source document 004, "Write FIFO", and document 01, "Chip B", decide; ms622424's
 // specs/Ms622424.antt says it (`written`, `taken`). Not modelled: what the output shows during a transfer.
@@ -6,13 +6,14 @@ use ms622424::Port;
 use ms622424_places::Answer;
 use ms622424_places::State;
 use ms622424_port::accepted;
+use ms622424_port::refused;
 ghost use mathlib.Core.Path.{_≡_};
 ghost use mathlib.Core.Bool.{true};
 ghost use mathlib.Core.List.{List};
 ghost use Prim.Native.Nat.{ℕ, _<_};
 ghost use lib.ListN.{length};
-ghost use Rattle.ms622424.specs.Ms622424.{InRange, selected, taken, palette, written};
-ghost use Rattle.ms622424_places.specs.Places.{right, handed, view, outcome, seen};
+ghost use Rattle.ms622424.specs.Ms622424.{InRange, selected, taken, palette, written, writes, called};
+ghost use Rattle.ms622424_places.specs.Places.{right, handed, view, outcome, seen, Does};
 
 // A byte for the palette, with room in the queue: red and green go to the buffer, blue completes.
 fn take_byte(s: State, byte: u8, queue: &mut [u64]) -> State
@@ -53,12 +54,24 @@ fn take_byte(s: State, byte: u8, queue: &mut [u64]) -> State
     }
 }
 
-// A write to the Color Palette Buffer that is not refused.
-pub fn write_palette(s: State, byte: u8, queue: &mut [u64], map: &mut [u8]) -> Answer
+// A byte with room made for it.
+fn with_room(s: State, byte: u8, queue: &mut [u64], map: &mut [u8]) -> Answer
     requires { ⌜ InRange (view (handed s (now queue) (now map))) ⌝ }
     ensures { λ r. ⌜ seen (outcome r (now (queue .exit)) (now (map .exit)))
         ≡ written palette byte (view (handed s (now (queue .entry)) (now (map .entry)))) ⌝ }
 {
     let m = ms622424_room::make_room(s, queue, map);
     accepted(0, m.count, take_byte(m.state, byte, queue))
+}
+
+// A write to the Color Palette Buffer: refused in read mode.
+pub fn write_palette(s: State, byte: u8, queue: &mut [u64], map: &mut [u8]) -> Answer
+    requires { ⌜ InRange (view (handed s (now queue) (now map))) ⌝ }
+    ensures { λ r. ⌜ Does (handed s (now (queue .entry)) (now (map .entry)))
+        (outcome r (now (queue .exit)) (now (map .exit))) (called (writes 2 byte)) ⌝ }
+{
+    if s.control.readmode == 1 {
+        return refused(5, s);
+    }
+    with_room(s, byte, queue, map)
 }

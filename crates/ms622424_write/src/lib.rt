@@ -3,7 +3,6 @@
 // Source document 004, "MPU Interface" and "Write FIFO", and document 01, "Chip B", decide; ms622424's
 // specs/Ms622424.antt says it (`written`, `writeRefusals`). Not modelled: what the output shows during a transfer.
 use ms622424::Control;
-use ms622424::Port;
 use ms622424_places::Answer;
 use ms622424_places::State;
 use ms622424_port::accepted;
@@ -28,37 +27,10 @@ pub extern "C" fn zk_b_write(
         return refused(refusal, s);
     }
     match select {
-        0 => {
-            let p = Port {
-                address: s.port.address / 256 * 256 + (byte as u16),
-                counter: 0,
-                red: s.port.red,
-                green: s.port.green,
-            };
-            accepted(0, 0, State { port: p, ..s })
-        }
-        1 => {
-            let p = Port {
-                address: ((byte % 32) as u16) * 256 + s.port.address % 256,
-                counter: 0,
-                red: s.port.red,
-                green: s.port.green,
-            };
-            accepted(0, 0, State { port: p, ..s })
-        }
-        2 => {
-            if s.control.readmode == 1 {
-                return refused(5, s);
-            }
-            ms622424_palette::write_palette(s, byte, queue, map)
-        }
-        3 => {
-            let d = Control {
-                command: byte % 32,
-                readmode: s.control.readmode,
-            };
-            accepted(0, 0, State { control: d, ..s })
-        }
+        0 => ms622424_set::set_address_low(s, byte),
+        1 => ms622424_set::set_address_high(s, byte),
+        2 => ms622424_palette::write_palette(s, byte, queue, map),
+        3 => ms622424_set::set_command(s, byte),
         7 => {
             let d = Control {
                 command: s.control.command,

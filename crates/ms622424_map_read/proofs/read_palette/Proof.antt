@@ -4,12 +4,13 @@ use borrow.Author.Needs.{needs}
 use Rattle.ms622424_map_read.proofs.read_palette.Statement.{statement}
 use Rattle.ms622424_map_read.proofs.read_palette.Tie as tie
 
-ruleset ends = (outside-refused, waiting-refused, palette-served, needs)
-
 pub read-palette-spec : {M : Type 1} → statement M
 unfolding answers
 read-palette-spec =
     tie.close
-    (tie.spec (λ c κs. search needs) (λ c q h. search ends) (λ c κs. search needs) (λ c q h. search ends)
+    (tie.spec (λ c κs. search needs) (λ c q h. outside-refused _ q _ _ h (c .before .if1 .taken) (c .refused .ensures))
+    (λ c κs. search needs)
+    (λ c q h.
+    waiting-refused _ q _ _ h (c .before .before .before .if1 .left) (c .before .if2 .taken) (c .refused2 .ensures))
     (λ c. search needs) (λ c. search needs) (λ c. search needs) (λ c. search needs) (λ c κs. search needs)
-    (λ c. search needs) (λ c κs. search needs) (λ c q h. search ends))
+    (λ c. search needs) (λ c κs. search needs) (λ c q h. search (palette-served, needs)))
