@@ -1,3 +1,4 @@
+use mathlib.Core.Path.{refl}
 use Rattle.vocabulary.specs.Component.{componentAt}
 use Rattle.ms622424.specs.Ms622424.{readable, bufferByte, bufferStepped, stepped}
 use Rattle.ms622424_registers.proofs.Arms.{buffer-served, blue-refused}
@@ -10,5 +11,6 @@ unfolding readable bufferByte bufferStepped stepped componentAt
 read-buffer-spec =
     tie.close
     (tie.spec (λ c κs. search needs) (λ c κs. search needs) (λ c κs. search needs)
-    (λ c q m h. search (buffer-served, needs)) (λ c q m h. search (buffer-served, needs))
+    (λ c q m h. search (buffer-served, needs))
+    (λ c q m h. buffer-served _ q m _ h (c .before .match .keys2) refl (c .accepted2 .ensures) refl refl)
     (λ c q m h. search (blue-refused, needs)))

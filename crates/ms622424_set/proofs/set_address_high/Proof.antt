@@ -1,3 +1,4 @@
+use mathlib.Core.Path.{refl}
 use Rattle.ms622424.specs.Ms622424.{registerAt, writable, written}
 use Rattle.ms622424_set.proofs.Arms.{register-set}
 use borrow.Author.Needs.{needs}
@@ -9,4 +10,4 @@ unfolding registerAt writable written
 set-address-high-spec =
     tie.close
     (tie.spec (λ c. search needs) (λ c. search needs) (λ c. search needs) (λ c κs. search needs)
-    (λ c q m h. search (register-set, needs)))
+    (λ c q m h. register-set _ q m _ 1 _ h (search needs) (c .accepted .ensures) refl refl refl))
