@@ -2,8 +2,8 @@ use Prim.Native.Nat.{_-_}
 use native.Mathlib.Omega.{arith}
 use Rattle.hd153108.proofs.Masks.{masked-on, masked-off}
 use borrow.Author.Needs.{needs}
-use Rattle.hd153108_shown.proofs.masked_byte.Statement.{statement}
-use Rattle.hd153108_shown.proofs.masked_byte.Tie as tie
+use Rattle.hd153108_masks.proofs.masked_byte.Statement.{statement}
+use Rattle.hd153108_masks.proofs.masked_byte.Tie as tie
 
 pub masked-byte-spec : {M : Type 1} → statement M
 masked-byte-spec =
