@@ -1,8 +1,8 @@
 use Rattle.hd153108_shown.proofs.Rule.{told-as, inside-as}
 use Rattle.vocabulary.proofs.Pixel.{shown-as}
 use borrow.Author.Needs.{needs}
-use Rattle.hd153108_pixel.proofs.zk_a_pixel.Statement.{statement}
-use Rattle.hd153108_pixel.proofs.zk_a_pixel.Tie as tie
+use Rattle.hd153108_pixel_c.proofs.zk_a_pixel.Statement.{statement}
+use Rattle.hd153108_pixel_c.proofs.zk_a_pixel.Tie as tie
 
 pub zk-a-pixel-spec : {M : Type 1} → statement M
 zk-a-pixel-spec =

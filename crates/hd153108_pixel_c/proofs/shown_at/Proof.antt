@@ -1,7 +1,7 @@
-use Rattle.hd153108_pixel.proofs.Bytes.{first-at, later-at}
+use Rattle.hd153108_pixel_c.proofs.Bytes.{first-at, later-at}
 use borrow.Author.Needs.{needs}
-use Rattle.hd153108_pixel.proofs.shown_at.Statement.{statement}
-use Rattle.hd153108_pixel.proofs.shown_at.Tie as tie
+use Rattle.hd153108_pixel_c.proofs.shown_at.Statement.{statement}
+use Rattle.hd153108_pixel_c.proofs.shown_at.Tie as tie
 
 ruleset ends = (first-at, later-at, needs)
 
