@@ -1,9 +1,9 @@
 use native.Mathlib.Omega.{arith}
 use Rattle.hex.proofs.Number.{length-hex}
 use Rattle.answers.proofs.Adds.{says-line}
 use borrow.Author.Needs.{needs}
-use Rattle.answers.proofs.field.Statement.{statement}
-use Rattle.answers.proofs.field.Tie as tie
+use Rattle.answers_line.proofs.field.Statement.{statement}
+use Rattle.answers_line.proofs.field.Tie as tie
 
 returns : tie.Need-returns
 returns c =

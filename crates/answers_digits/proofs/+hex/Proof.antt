@@ -3,13 +3,13 @@ use native.Mathlib.Omega.{arith}
 use borrow.Fn.Kinds.{In}
 use borrow.Fn.PlainCycle.{Measures, is, falls, and}
 use Rattle.hex.proofs.digit.Reads as digit
 use Rattle.answers.proofs.Adds.{adds-none, adds-more, hex-none, hex-more}
-use Rattle.answers.proofs.put.Reads as put
-use Rattle.answers.proofs.hex.Reads as hex
-use Rattle.answers.proofs.hex.Kinds as kinds
-use Rattle.answers.proofs.+hex.Lts-hex as lts
-use Rattle.answers.proofs.+hex.{statement}
-use Rattle.answers.proofs.+hex.Tie.{close}
+use Rattle.answers_digits.proofs.put.Reads as put
+use Rattle.answers_digits.proofs.hex.Reads as hex
+use Rattle.answers_digits.proofs.hex.Kinds as kinds
+use Rattle.answers_digits.proofs.+hex.Lts-hex as lts
+use Rattle.answers_digits.proofs.+hex.{statement}
+use Rattle.answers_digits.proofs.+hex.Tie.{close}
 
 -- the measure is the digits that are left to write
 abbrev μ-hex : Measures 0 kinds.ps ℕ

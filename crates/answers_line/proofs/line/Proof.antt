@@ -1,7 +1,7 @@
 use Rattle.answers.proofs.Adds.{says-news}
 use borrow.Author.Needs.{needs}
-use Rattle.answers.proofs.line.Statement.{statement}
-use Rattle.answers.proofs.line.Tie as tie
+use Rattle.answers_line.proofs.line.Statement.{statement}
+use Rattle.answers_line.proofs.line.Tie as tie
 
 pub line-spec : {M : Type 1} → statement M
 line-spec =

@@ -1,7 +1,7 @@
 use Rattle.answers.proofs.Adds.{adds-byte, adds-full}
 use borrow.Author.Needs.{needs}
-use Rattle.answers.proofs.put.Statement.{statement}
-use Rattle.answers.proofs.put.Tie as tie
+use Rattle.answers_digits.proofs.put.Statement.{statement}
+use Rattle.answers_digits.proofs.put.Tie as tie
 
 pub put-spec : {M : Type 1} → statement M
 put-spec =

@@ -1,7 +1,7 @@
 use Rattle.answers.proofs.Adds.{says-line, length-decimal}
 use borrow.Author.Needs.{needs}
-use Rattle.answers.proofs.count.Statement.{statement}
-use Rattle.answers.proofs.count.Tie as tie
+use Rattle.answers_line.proofs.count.Statement.{statement}
+use Rattle.answers_line.proofs.count.Tie as tie
 
 returns : tie.Need-returns
 returns c =

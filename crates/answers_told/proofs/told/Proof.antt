@@ -1,7 +1,7 @@
 use Rattle.answers.proofs.Adds.{says-refused, says-done}
 use borrow.Author.Needs.{needs}
-use Rattle.answers.proofs.told.Statement.{statement}
-use Rattle.answers.proofs.told.Tie as tie
+use Rattle.answers_told.proofs.told.Statement.{statement}
+use Rattle.answers_told.proofs.told.Tie as tie
 
 pub told-spec : {M : Type 1} → statement M
 told-spec =

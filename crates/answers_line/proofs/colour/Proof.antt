@@ -2,10 +2,10 @@ use native.Mathlib.Omega.{arith}
 use mathlib.Core.Path.{refl}
 use lib.ListN.{length-append}
 use Rattle.hex.proofs.Number.{length-hex}
 use Rattle.answers.proofs.Adds.{says-line, adds-more}
 use borrow.Author.Needs.{needs}
-use Rattle.answers.proofs.colour.Statement.{statement}
-use Rattle.answers.proofs.colour.Tie as tie
+use Rattle.answers_line.proofs.colour.Statement.{statement}
+use Rattle.answers_line.proofs.colour.Tie as tie
 
 pub colour-spec : {M : Type 1} → statement M
 colour-spec =

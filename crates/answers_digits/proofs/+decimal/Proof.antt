@@ -2,14 +2,14 @@ use Prim.Native.Nat.{ℕ, _<_}
 use native.Mathlib.Omega.{arith}
 use borrow.Fn.Kinds.{In}
 use borrow.Fn.PlainCycle.{Measures, is, falls, and}
 use Rattle.answers.proofs.Adds.{adds-none, adds-more, decimal-none, decimal-last, decimal-more}
-use Rattle.answers.proofs.put.Reads as put
-use Rattle.answers.proofs.unit.Reads as unit
-use Rattle.answers.proofs.decimal.Reads as decimal
-use Rattle.answers.proofs.decimal.Kinds as kinds
-use Rattle.answers.proofs.+decimal.Lts-decimal as lts
-use Rattle.answers.proofs.+decimal.{statement}
-use Rattle.answers.proofs.+decimal.Tie.{close}
+use Rattle.answers_digits.proofs.put.Reads as put
+use Rattle.answers_digits.proofs.unit.Reads as unit
+use Rattle.answers_digits.proofs.decimal.Reads as decimal
+use Rattle.answers_digits.proofs.decimal.Kinds as kinds
+use Rattle.answers_digits.proofs.+decimal.Lts-decimal as lts
+use Rattle.answers_digits.proofs.+decimal.{statement}
+use Rattle.answers_digits.proofs.+decimal.Tie.{close}
 
 -- the measure is the digits that are left to write
 abbrev μ-decimal : Measures 0 kinds.ps ℕ
