@@ -1,8 +1,8 @@
 use mathlib.Core.Path.{refl}
 use Rattle.rgb640.specs.Rgb640.{entry}
 use borrow.Author.Needs.{needs}
-use Rattle.rgb640_port.proofs.fetch.Statement.{statement}
-use Rattle.rgb640_port.proofs.fetch.Tie as tie
+use Rattle.rgb640_fetch.proofs.fetch.Statement.{statement}
+use Rattle.rgb640_fetch.proofs.fetch.Tie as tie
 
 returns : tie.Need-returns
 unfolding entry

@@ -2,8 +2,8 @@ use mathlib.Core.Path.{sym}
 use native.Mathlib.Omega.{arith}
 use Rattle.rgb640.proofs.Index.{fetches-entry, fetches-nothing}
 use borrow.Author.Needs.{needs}
-use Rattle.rgb640_port.proofs.prefetch.Statement.{statement}
-use Rattle.rgb640_port.proofs.prefetch.Tie as tie
+use Rattle.rgb640_fetch.proofs.prefetch.Statement.{statement}
+use Rattle.rgb640_fetch.proofs.prefetch.Tie as tie
 
 pub prefetch-spec : {M : Type 1} → statement M
 prefetch-spec =
