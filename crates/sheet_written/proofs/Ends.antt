@@ -1,4 +1,4 @@
--- The whole call, by how it ends. Assumes nothing.
+-- The writer's call, by how it ends. Assumes nothing.
 use Prim.Native.Nat.{ℕ, _≤_, _<_}
 use mathlib.Core.Path.{_≡_, refl, sym, _∙_}
 use mathlib.Core.Bool.{Bool, true, false, _||_}
