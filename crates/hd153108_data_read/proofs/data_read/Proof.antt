@@ -1,8 +1,8 @@
 use mathlib.Core.Path.{_∙_, ap}
 use Rattle.hd153108.specs.Hd153108.{accept}
 use borrow.Author.Needs.{needs}
-use Rattle.hd153108_read.proofs.data_read.Statement.{statement}
-use Rattle.hd153108_read.proofs.data_read.Tie as tie
+use Rattle.hd153108_data_read.proofs.data_read.Statement.{statement}
+use Rattle.hd153108_data_read.proofs.data_read.Tie as tie
 
 pub data-read-spec : {M : Type 1} → statement M
 data-read-spec =

@@ -3,8 +3,8 @@ use mathlib.Core.Path.{refl}
 use lib.ListN.{length-set}
 use Rattle.vocabulary.specs.Component.{put}
 use borrow.Author.Needs.{needs}
-use Rattle.hd153108_write.proofs.put_colour.Statement.{statement}
-use Rattle.hd153108_write.proofs.put_colour.Tie as tie
+use Rattle.hd153108_data_write.proofs.put_colour.Statement.{statement}
+use Rattle.hd153108_data_write.proofs.put_colour.Tie as tie
 
 pub put-colour-spec : {M : Type 1} → statement M
 unfolding put

@@ -1,8 +1,8 @@
 use Rattle.hd153108.specs.Hd153108.{stepped, latched, stored}
 use Rattle.hd153108.proofs.Access.{is-red, is-green, is-blue}
 use borrow.Author.Needs.{needs}
-use Rattle.hd153108_write.proofs.data_write.Statement.{statement}
-use Rattle.hd153108_write.proofs.data_write.Tie as tie
+use Rattle.hd153108_data_write.proofs.data_write.Statement.{statement}
+use Rattle.hd153108_data_write.proofs.data_write.Tie as tie
 
 pub data-write-spec : {M : Type 1} → statement M
 unfolding stepped latched stored

@@ -1,8 +1,8 @@
 use Rattle.hd153108.specs.Hd153108.{stepped}
 use Rattle.hd153108.proofs.Access.{is-red, is-green, is-blue}
 use borrow.Author.Needs.{needs}
-use Rattle.hd153108_read.proofs.stepped.Statement.{statement}
-use Rattle.hd153108_read.proofs.stepped.Tie as tie
+use Rattle.hd153108_data_read.proofs.stepped.Statement.{statement}
+use Rattle.hd153108_data_read.proofs.stepped.Tie as tie
 
 pub stepped-spec : {M : Type 1} → statement M
 unfolding stepped
