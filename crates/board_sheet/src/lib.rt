@@ -37,7 +37,7 @@ fn told(board: Board, answer: Answer) -> Step
         },
         Answer::Refused(n, _) => Step {
             board: board,
-            text: answers::refused(n),
+            text: answers_line::refused(n),
             listed: 0,
         },
     }

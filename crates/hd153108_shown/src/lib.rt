@@ -1,12 +1,13 @@
-// The HD153108's pixel selection (chip A): masks, blink, and which entry of which table shows.
+// The HD153108's pixel selection (chip A): which entry of which table shows, its lines masked by hd153108_masks.
 //
 // Source document 003, Table 4 and Internal Registers, with document 01's rulings, decides; the rule is `pixelPart` of
 // hd153108's specs/Hd153108.antt, and what a decision means is specs/Picked.antt. Not modelled: analogue output,
 // blanking, pipeline delay.
 use hd153108::State;
+use hd153108_masks::masked_byte;
+use hd153108_masks::masked_number;
 ghost use mathlib.Core.Path.{_≡_};
-ghost use Prim.Native.Nat.{_/_, _<_};
-ghost use Rattle.hd153108.specs.Hd153108.{chip, masked, selected};
+ghost use Rattle.hd153108.specs.Hd153108.{chip, selected};
 ghost use Rattle.hd153108_shown.specs.Picked.{isColour, Picked};
 
 // What a pixel shows: an entry of one of the tables; or its refusal.
@@ -20,27 +21,6 @@ fn wide(x: u8) -> usize
     ensures { λ r. ⌜ r ≡ x ⌝ }
 {
     x as usize
-}
-
-// The eight lines of a pixel's byte.
-fn masked_byte(off: bool, read: u8, blink: u8, byte: u8) -> u8
-    ensures { λ r. ⌜ r ≡ masked 8 off read blink byte ⌝ }
-{
-    if off {
-        return byte & (255 - read) & blink;
-    }
-    byte & (255 - read)
-}
-
-// The two lines of an overlay number: bits 0, 1 of the overlay control mask them, and bits 2, 3 blink mask them.
-fn masked_number(off: bool, control: u8, number: u8) -> u8
-    requires { ⌜ number < 4 ⌝ }
-    ensures { λ r. ⌜ r ≡ masked 2 off control (control / 4) number ⌝ }
-{
-    if off {
-        return number & (255 - control) & (control / 4);
-    }
-    number & (255 - control)
 }
 
 // Whether the colour table shows.

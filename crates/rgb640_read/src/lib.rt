@@ -4,9 +4,9 @@
 // `called (reads ..)` of rgb640's specs/Rgb640.antt. Not modelled: as there.
 use rgb640::Answer;
 use rgb640::State;
+use rgb640_fetch::fetch;
+use rgb640_fetch::next_index;
 use rgb640_port::accepted;
-use rgb640_port::fetch;
-use rgb640_port::next_index;
 use rgb640_port::refused;
 use rgb640_port::standing_of;
 ghost use mathlib.Core.Path.{_≡_};

@@ -2,10 +2,11 @@
 //
 // Document 01, "The sheet and its calls", decides; `write` in specs/Sheet.antt of crate sheet says what it answers and
 // leaves, and the call equals it. It always lists all: 265 lines, 2,134 bytes. The caller owns state, tables and
-// buffer; bytes past the sheet keep their values, and a refusal writes none. Not modelled: a sheet with missing lines.
+// buffer; bytes past the sheet keep their values, and a refusal writes none. The call for C is in sheet_writer_c. Not
+// modelled: a sheet with missing lines.
 ghost use mathlib.Core.Path.{_≡_};
 ghost use Rattle.hd153108.specs.Hd153108.{chip};
-ghost use Rattle.sheet.specs.Sheet.{write, outcome, heard, telling};
+ghost use Rattle.sheet.specs.Sheet.{write, outcome};
 use hd153108::State;
 use sheet::Answer;
 
@@ -29,18 +30,4 @@ pub fn write_sheet<'a>(s: State, colours: &'a [u8], overlays: &'a [u8], out: &mu
     }
     sheet_lines::write_lines(s, colours, overlays, out);
     Answer::Done(2134)
-}
-
-// The same for C: refusal and count of bytes in one number.
-#[no_mangle]
-pub extern "C" fn zk_sheet_write<'a>(
-    state: State,
-    colours: &'a [u8],
-    overlays: &'a [u8],
-    out: &mut [u8],
-) -> u64
-    ensures { λ r. ⌜ heard r (now (out .exit))
-        ≡ telling (write (chip state (now (colours .entry)) (now (overlays .entry))) (now (out .entry))) ⌝ }
-{
-    sheet::told(write_sheet(state, colours, overlays, out))
 }

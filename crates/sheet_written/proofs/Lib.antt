@@ -1,3 +1,4 @@
 pub mod Size
 pub mod Values
 pub mod Round
+pub mod Ends

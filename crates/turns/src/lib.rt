@@ -14,8 +14,8 @@ fn ten(e: Expanded) -> Text
     ensures { λ r. ⌜ Says r (toldText (meaning e .refusal) (tenText (meaning e .value))) ⌝ }
 {
     match e {
-        Expanded::Ten(t) => answers::told(0, News::Ten(t)),
-        Expanded::Refused => answers::told(9, News::Ten(0)),
+        Expanded::Ten(t) => answers_told::told(0, News::Ten(t)),
+        Expanded::Refused => answers_told::told(9, News::Ten(0)),
     }
 }
 

@@ -27,7 +27,7 @@ fn told(r: Answer, news: News) -> ATurn
     let after = r.state;
     ATurn {
         state: after,
-        text: answers::told(r.refusal, news),
+        text: answers_told::told(r.refusal, news),
     }
 }
 
@@ -39,7 +39,7 @@ fn ticked(s: State) -> ATurn
     let k = r.clock;
     ATurn {
         state: State { clock: k, ..s },
-        text: answers::told(r.refusal, News::Nothing),
+        text: answers_told::told(r.refusal, News::Nothing),
     }
 }
 
@@ -51,10 +51,10 @@ fn own(s: State, call: CallA, colours: &[u8], overlays: &[u8]) -> ATurn
     match call {
         CallA::Tick => ticked(s),
         CallA::Pixel(enable, number, byte) => {
-            let p = hd153108_pixel::zk_a_pixel(s, colours, overlays, enable, number, byte);
+            let p = hd153108_pixel_c::zk_a_pixel(s, colours, overlays, enable, number, byte);
             ATurn {
                 state: s,
-                text: answers::told(p.refusal, News::Colour(p.red, p.green, p.blue)),
+                text: answers_told::told(p.refusal, News::Colour(p.red, p.green, p.blue)),
             }
         }
     }

@@ -29,7 +29,7 @@ fn told(r: Answer, news: News) -> BTurn
     let after = r.state;
     BTurn {
         state: after,
-        text: answers::told(r.refusal, news),
+        text: answers_told::told(r.refusal, news),
     }
 }
 
@@ -56,7 +56,7 @@ fn own(s: State, call: CallB, queue: &mut [u64], map: &mut [u8]) -> BTurn
             let p = ms622424_pixel::zk_b_pixel(s, mode, word, queue, map);
             BTurn {
                 state: s,
-                text: answers::told(p.refusal, News::Colour(p.red, p.green, p.blue)),
+                text: answers_told::told(p.refusal, News::Colour(p.red, p.green, p.blue)),
             }
         }
         CallB::Blank(slots) => {

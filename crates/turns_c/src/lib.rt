@@ -26,7 +26,7 @@ fn told(r: Answer, news: News) -> CTurn
     let after = r.state;
     CTurn {
         state: after,
-        text: answers::told(r.refusal, news),
+        text: answers_told::told(r.refusal, news),
     }
 }
 

@@ -1,7 +1,7 @@
 use Rattle.hd153108.specs.Hd153108.{chip}
 use Rattle.sheet_written.specs.Writer.{Writable}
-use Rattle.sheet_writer.proofs.Ends.{takes-it, refused-standing, refused-colours, refused-overlays}
-use Rattle.sheet_writer.proofs.Ends.{refused-short, done}
+use Rattle.sheet_written.proofs.Ends.{takes-it, refused-standing, refused-colours, refused-overlays}
+use Rattle.sheet_written.proofs.Ends.{refused-short, done}
 use borrow.Author.Needs.{needs}
 use Rattle.sheet_writer.proofs.write_sheet.Statement.{statement}
 use Rattle.sheet_writer.proofs.write_sheet.Tie as tie

@@ -1,0 +1,11 @@
+use mathlib.Core.Path.{ap, _∙_}
+use Rattle.sheet.specs.Sheet.{telling}
+use borrow.Author.Needs.{needs}
+use Rattle.sheet_writer_c.proofs.zk_sheet_write.Statement.{statement}
+use Rattle.sheet_writer_c.proofs.zk_sheet_write.Tie as tie
+
+pub zk-sheet-write-spec : {M : Type 1} → statement M
+zk-sheet-write-spec =
+    tie.close
+    (tie.spec (λ c. search needs) (λ c. search needs) (λ c. search needs)
+    (λ c. c .told .ensures _ ∙ ap telling (c .before .before .before .write-sheet .ensures)))
