@@ -13,7 +13,8 @@ use Rattle.vocabulary.specs.Outcome.{accepting}
 use Rattle.vocabulary.proofs.Range.{neither}
 use Rattle.vocabulary.proofs.Outcome.{accepted-does, accepted-none}
 use Rattle.vocabulary.proofs.Refusal.{none-exactly}
-use Rattle.hd153108.specs.Hd153108.{Chip}
+use Rattle.hd153108.specs.Hd153108.{Chip, InRange}
+use Rattle.hd153108.proofs.InRange.{in-range}
 use Rattle.sheet.specs.declared.Line.the-variants.{Has}
 use Rattle.sheet.specs.Sheet.{keyAt, lineText, good, readFrom, sheetOf}
 use Rattle.sheet.specs.Sheet.{coloursIn, values, chipLines, textFrom, textOf, pasted, overFifteenIn, writeRefusals}
@@ -57,12 +58,12 @@ lawful-colours (r ∷ g ∷ b ∷ t) k rest h e l =
 chip-lawful : (a : Chip) → Writable a → Lawful 0 (chipLines a)
 unfolding values keyAt pick
 chip-lawful a w =
-    let s = w .state in
+    let s : InRange a = in-range a (w .colours, (w .overlays, tt)) (w .state) in
     let os = coloursIn (a .overlays) in
     let cs = coloursIn (a .colours) in
     let colours = lawful-colours (a .colours) (5 + length os) [] (omega arith) (w .low-colours) tt in
     let entries = lawful-colours (a .overlays) 5 cs (omega arith) (w .low-overlays) (rw (append-nil cs) at colours) in
-    let reserved = eq-eqb _ _ (s .1 .1 .1 .1 .1 .1 .1 .0) in
+    let reserved = eq-eqb _ _ (s .nothing-reserved) in
     (omega arith, refl, (omega arith, refl, (omega arith, refl, (omega arith, reserved, (omega arith, refl, entries)))))
 
 -- Law 4: reading what the writer wrote gives what was written, of any state and tables that it takes.

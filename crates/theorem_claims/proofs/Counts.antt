@@ -1,11 +1,12 @@
 -- What the sheet's two calls count and which line they tell. Assumes nothing.
 use Prim.Native.Nat.{ℕ, zero, suc}
 use mathlib.Core.Path.{_≡_, refl, sym, ap, _∙_}
+use mathlib.Core.Bool.{false}
 use mathlib.Core.List.{List, _++_}
 use native.Mathlib.Omega.{arith}
 use lib.ListN.{length}
 use Rattle.vocabulary.specs.Choice.{pick}
-use Rattle.vocabulary.specs.Refusal.{refusalOf}
+use Rattle.vocabulary.specs.Refusal.{refusalOf, due, malformed}
 use Rattle.vocabulary.specs.Outcome.{Outcome, accepting, answeredAt}
 use Rattle.vocabulary.proofs.Range.{clash}
 use Rattle.vocabulary.proofs.Refusal.{none-exactly}
@@ -48,7 +49,8 @@ reading-counts text out (good l) e f z =
     register-counts _ _ (good-lines text l e .registers) (sym n ∙ z)
 reading-counts text out (bad n) e f z =
     let none = none-exactly (callRefusals (bad n) out) (accepted-none _ n out _ f) in
-    clash (none .1 .1 .1 .1 .1 .1 .1 .0)
+    let well-formed : due (callRefusals (bad n) out) malformed ≡ false = search in
+    clash well-formed
 
 pub calls-count : (text out : List ℕ) → Counts (sheetToCalls text out)
 unfolding sheetToCalls callsFor
