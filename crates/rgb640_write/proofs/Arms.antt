@@ -2,29 +2,19 @@
 use Prim.Native.Nat.{ℕ, _+_, _*_, _/_, _%_, _≤_, _<_}
 use mathlib.Core.Path.{_≡_, refl, sym, ap, _∙_}
 use mathlib.Core.List.{List, [], _∷_}
-use lib.Bits.{bitAnd}
 use lib.ListN.{length}
 use Rattle.vocabulary.specs.Face.{calledBy}
 use Rattle.vocabulary.specs.Outcome.{accepting}
 use Rattle.vocabulary.specs.Range.{below}
 use Rattle.rgb640.specs.declared.State.{State}
 use Rattle.rgb640.specs.declared.Answer.{Answer}
-use Rattle.rgb640.specs.Rgb640.{chip, at, updating, indexData, registerAt, writing, next, threeBytes, restarted}
+use Rattle.rgb640.specs.Rgb640.{chip, at, updating, indexData, registerAt, threeBytes}
 use Rattle.rgb640.specs.Rgb640.{paletteTaken, Space, updateControl, paletteWrite, prefetched, wrote, noPort}
 use Rattle.rgb640.specs.Rgb640.{standingOf, accept, refuse, outcome, writes, called}
 use Rattle.rgb640.proofs.Index.{space-update, space-write, unwritten, no-register}
-use Rattle.rgb640.proofs.Order.{steps, stays, write-steps, write-stays}
 use Rattle.rgb640.proofs.InRange.{stands-range}
 use Rattle.rgb640.proofs.Access as Access
 use Rattle.rgb640.proofs.Access.{byte-passes, write-index, write-data}
-
--- ---- After the last transfer
-pub index-steps : (s : State) {i : ℕ} → bitAnd (s .update) 2 ≡ 0 → i ≡ next (s .index)
-    → at s i 0 ≡ restarted writing (λ n. n) s
-index-steps s e f = ap (λ (i : ℕ). at s i 0) f ∙ sym (steps writing _ s (write-steps (s .update) e))
-
-pub index-stays : (s : State) → (bitAnd (s .update) 2 ≡ 0 → ⊥) → at s (s .index) 0 ≡ restarted writing (λ n. n) s
-index-stays s e = sym (stays writing _ s (write-stays (s .update) e))
 
 module _ (s : State) (t : List ℕ) (b : ℕ) (h : b < 256) (a : Answer) where
   -- ---- Port 6

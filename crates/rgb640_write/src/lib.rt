@@ -4,65 +4,13 @@
 // `called (writes ..)` of rgb640's specs/Rgb640.antt. Not modelled: as there.
 use rgb640::Answer;
 use rgb640::State;
-use rgb640_fetch::next_index;
 use rgb640_fetch::prefetch;
 use rgb640_port::accepted;
 use rgb640_port::refused;
 use rgb640_port::standing_of;
 ghost use mathlib.Core.Path.{_≡_};
 ghost use lib.ListN.{length};
-ghost use Rattle.vocabulary.specs.Component.{put};
-ghost use Rattle.rgb640.specs.Rgb640.{chip, offset, writing, threeBytes, restarted, paletteTaken, standingOf, outcome};
-ghost use Rattle.rgb640.specs.Rgb640.{writes, called, InRange};
-
-// A colour stored at the entry of an index.
-fn store(index: u16, red: u16, green: u16, blue: u16, table: &mut [u16])
-    requires { ⌜ length (now table) ≡ 3072 ⌝ }
-    ensures { λ _. ⌜ now (table .exit) ≡ put (offset index) red green blue (now (table .entry)) ⌝ }
-{
-    let at = 3 * ((index % 1024) as usize);
-    table[at] = red;
-    table[at + 1] = green;
-    table[at + 2] = blue;
-}
-
-// The state after the last transfer: bit 1 of register 0x000E, where it is 1, stops the index.
-fn restart(s: State) -> State
-    ensures { λ r. ⌜ r ≡ restarted writing (λ n. n) s ⌝ }
-{
-    let mut n = s;
-    n.place = 0;
-    if s.update & 2 == 0 {
-        n.index = next_index(s.index);
-    }
-    n
-}
-
-// A byte to the palette, by its place in the order.
-fn palette_write(s: State, byte: u8, table: &mut [u16]) -> State
-    requires { ⌜ InRange (chip s (now table)) ⌝ }
-    ensures { λ r. ⌜ chip r (now (table .exit)) ≡ paletteTaken threeBytes byte (chip s (now (table .entry))) ⌝ }
-{
-    let place = s.place;
-    let v = expand::eight(byte);
-    let mut n = s;
-    match place {
-        0 => {
-            n.red = v;
-            n.place = 1;
-            n
-        }
-        1 => {
-            n.green = v;
-            n.place = 2;
-            n
-        }
-        _ => {
-            store(s.index, s.red, s.green, v, table);
-            restart(s)
-        }
-    }
-}
+ghost use Rattle.rgb640.specs.Rgb640.{chip, standingOf, outcome, writes, called};
 
 // A write of port 6, where the table and the state stand.
 fn data_write(s: State, byte: u8, table: &mut [u16]) -> Answer
@@ -76,7 +24,7 @@ fn data_write(s: State, byte: u8, table: &mut [u16]) -> Answer
             n.update = byte;
             accepted(0, n)
         }
-        0x4000..=0x43FF => accepted(0, palette_write(s, byte, table)),
+        0x4000..=0x43FF => accepted(0, rgb640_palette::palette_write(s, byte, table)),
         _ => refused(4, s),
     }
 }

@@ -3,8 +3,8 @@ use native.Mathlib.Omega.{arith}
 use lib.ListN.{length-set}
 use Rattle.vocabulary.specs.Component.{put}
 use borrow.Author.Needs.{needs}
-use Rattle.rgb640_write.proofs.store.Statement.{statement}
-use Rattle.rgb640_write.proofs.store.Tie as tie
+use Rattle.rgb640_palette.proofs.store.Statement.{statement}
+use Rattle.rgb640_palette.proofs.store.Tie as tie
 
 slice-write-table-2 : tie.Need-slice-write-table-2
 slice-write-table-2 c = simp length-set (omega arith)

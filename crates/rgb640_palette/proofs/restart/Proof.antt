@@ -1,7 +1,7 @@
-use Rattle.rgb640_write.proofs.Arms.{index-steps, index-stays}
+use Rattle.rgb640_palette.proofs.Arms.{index-steps, index-stays}
 use borrow.Author.Needs.{needs}
-use Rattle.rgb640_write.proofs.restart.Statement.{statement}
-use Rattle.rgb640_write.proofs.restart.Tie as tie
+use Rattle.rgb640_palette.proofs.restart.Statement.{statement}
+use Rattle.rgb640_palette.proofs.restart.Tie as tie
 
 ruleset ends = (index-steps, index-stays, needs)
 

@@ -1,7 +1,7 @@
 use Rattle.rgb640.proofs.Order.{last-place, red-latched, green-latched, blue-stored}
 use borrow.Author.Needs.{needs}
-use Rattle.rgb640_write.proofs.palette_write.Statement.{statement}
-use Rattle.rgb640_write.proofs.palette_write.Tie as tie
+use Rattle.rgb640_palette.proofs.palette_write.Statement.{statement}
+use Rattle.rgb640_palette.proofs.palette_write.Tie as tie
 
 ruleset ends = (last-place, red-latched, green-latched, blue-stored, needs)
 
