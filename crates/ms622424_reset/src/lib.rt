@@ -28,7 +28,7 @@ pub extern "C" fn zk_b_reset(s: State, queue: &mut [u64]) -> Answer
     if 16 <= s.ident.board {
         return refused(9, s);
     }
-    let f = ms622424_queue::empty(queue);
+    let f = ms622424_clear::empty(queue);
     let p = Port {
         address: 0,
         counter: 0,

@@ -2,7 +2,7 @@
 use Prim.Native.Nat.{ℕ, zero, suc, _+_, _-_, _^_, _<_, _≤_, min}
 use mathlib.Core.Path.{_≡_, refl, sym, ap, _∙_}
 use mathlib.Core.Bool.{true}
-use mathlib.Core.List.{List, [], _∷_, _++_, append-assoc, map, map-append}
+use mathlib.Core.List.{List, [], _∷_, _++_, append-assoc, map}
 use native.Mathlib.Nat.{add-comm}
 use native.Mathlib.Numerals.{add-one}
 use native.Mathlib.Omega.{arith}
@@ -14,13 +14,13 @@ use lib.Seq.{take-suc, drop-cons, length-take-le, set-at, take-at, append-snoc, 
 use lib.Seq.{drop-append-add, drop-drop, take-take, getD-take}
 use Rattle.vocabulary.specs.Every.{every}
 use Rattle.vocabulary.proofs.Every.{every-at}
-use Rattle.ms622424.specs.Ms622424.{Entry, InRange, inMap, stored, allStored, made, moves}
-use Rattle.ms622424.proofs.Moves.{all-stored-append, moves-least}
+use Rattle.ms622424.specs.Ms622424.{Entry, InRange, inMap, allStored, made, moves}
+use Rattle.ms622424.proofs.Moves.{moves-least}
 use Rattle.ms622424_places.specs.declared.Fifo.{Fifo}
 use Rattle.ms622424_places.specs.declared.State.{State}
 use Rattle.ms622424_places.specs.Places.{unpacked, entriesIn, colours, right, handed, withFifo, view}
 use Rattle.ms622424_places.proofs.Places.{fifo, few, unused, zeros, how-many, below-in-map, oldest-taken}
-use Rattle.ms622424_queue.proofs.Cleared.{zeroed}
+use Rattle.ms622424_clear.proofs.Cleared.{zeroed}
 
 -- q with its first i places as in l
 abbrev pub front : ℕ → List ℕ → List ℕ → List ℕ
@@ -79,16 +79,6 @@ closed-up q w k n h g z =
     ∙ (sym (append-assoc moved (replicate n 0) (replicate k 0))
     ∙ ap (λ (x : List ℕ). x ++ replicate k 0)
     (ap (λ (x : List ℕ). moved ++ x) (sym (rest ∙ z)) ∙ take-append-drop j d))))
-
--- ---- the map, one more colour stored
-pub stored-next : (q m : List ℕ) {n now : List ℕ} (k : ℕ) → n ≡ stored (unpacked (getD q k 0)) now
-    → now ≡ allStored (entriesIn (take k q)) m → k < length q
-    → n ≡ allStored (entriesIn (take (k + 1) q)) m
-unfolding allStored
-stored-next q m k s e h =
-    let next : entriesIn (take (k + 1) q) ≡ entriesIn (take k q) ++ (unpacked (getD q k 0) ∷ []) =
-    rw (add-one, take-suc q k 0 h) (map-append unpacked (take k q) (getD q k 0 ∷ [])) in
-    s ∙ rw (next, e) (sym (all-stored-append (entriesIn (take k q)) (unpacked (getD q k 0) ∷ []) m))
 
 -- ---- a waiting entry's place is below 2 ^ 37
 pub place-below : (f : Fifo) (q : List ℕ) → length q ≡ 64 → right f q ≡ true → every inMap (colours f q) ≡ true

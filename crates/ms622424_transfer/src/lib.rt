@@ -7,39 +7,10 @@ use ms622424_places::Moved;
 use ms622424_places::State;
 ghost use mathlib.Core.Path.{_≡_};
 ghost use mathlib.Core.List.{_++_};
-ghost use Prim.Native.Nat.{ℕ, _-_, _^_, _≤_, _<_, min};
-ghost use lib.ListN.{length, getD, take, drop};
-ghost use Rattle.ms622424.specs.Ms622424.{InRange, stored, allStored, made, moves};
-ghost use Rattle.ms622424_places.specs.Places.{unpacked, entriesIn, handed, view};
-
-// An entry's three bytes go into the map.
-fn store(map: &mut [u8], place: u64)
-    requires { ⌜ (length (now map) ≡ 24576) × (place < 2 ^ 37) ⌝ }
-    ensures { λ _. ⌜ now (map .exit) ≡ stored (unpacked place) (now (map .entry)) ⌝ }
-{
-    let at = 3 * ((place / 16777216) as usize);
-    map[at] = (place % 256) as u8;
-    map[at + 1] = (place / 256 % 256) as u8;
-    map[at + 2] = (place / 65536 % 256) as u8;
-}
-
-// Each slot moves the oldest entry that is left, if one is, into the map: how many they moved.
-fn store_oldest(waiting: usize, slots: usize, queue: &[u64], map: &mut [u8]) -> usize
-    requires { ⌜ (length (now map) ≡ 24576) × (length (now queue) ≡ 64) × (waiting ≤ 64) ⌝ }
-    requires { ⌜ ((i : ℕ) → i < waiting → getD (now queue) i 0 < 2 ^ 37) ⌝ }
-    ensures { λ r. ⌜ r ≡ min slots waiting ⌝ }
-    ensures { λ r. ⌜ now (map .exit) ≡ allStored (entriesIn (take r (now (queue .entry)))) (now (map .entry)) ⌝ }
-{
-    let mut moved: usize = 0;
-    while moved < slots {
-        if waiting <= moved {
-            break;
-        }
-        store(map, queue[moved]);
-        moved += 1;
-    }
-    moved
-}
+ghost use Prim.Native.Nat.{_-_, _≤_};
+ghost use lib.ListN.{length, take, drop};
+ghost use Rattle.ms622424.specs.Ms622424.{InRange, made, moves};
+ghost use Rattle.ms622424_places.specs.Places.{handed, view};
 
 // The entries behind the first `gone` move down to the first place.
 fn move_down(queue: &mut [u64], waiting: usize, gone: usize)
@@ -62,9 +33,9 @@ pub fn transfer(s: State, slots: u32, queue: &mut [u64], map: &mut [u8]) -> Move
         ≡ moves slots (view (handed s (now (queue .entry)) (now (map .entry)))) ⌝ }
 {
     let waiting = s.fifo.waiting as usize;
-    let moved = store_oldest(waiting, slots as usize, queue, map);
+    let moved = ms622424_store::store_oldest(waiting, slots as usize, queue, map);
     move_down(queue, waiting, moved);
-    ms622424_queue::clear(queue, waiting - moved, waiting);
+    ms622424_clear::clear(queue, waiting - moved, waiting);
     let left = Fifo {
         waiting: (waiting - moved) as u8,
     };

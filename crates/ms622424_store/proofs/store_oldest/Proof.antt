@@ -5,10 +5,10 @@ use lib.ListN.{length, take}
 use Rattle.ms622424.specs.Ms622424.{allStored}
 use Rattle.ms622424.proofs.Moves.{all-stored-length}
 use Rattle.ms622424_places.specs.Places.{entriesIn}
-use Rattle.ms622424_transfer.proofs.Moved.{stored-next}
+use Rattle.ms622424_store.proofs.Stores.{stored-next}
 use borrow.Author.Needs.{needs}
-use Rattle.ms622424_transfer.proofs.store_oldest.Statement.{statement}
-use Rattle.ms622424_transfer.proofs.store_oldest.Tie as tie
+use Rattle.ms622424_store.proofs.store_oldest.Statement.{statement}
+use Rattle.ms622424_store.proofs.store_oldest.Tie as tie
 
 abbrev Inv-loop : tie.InvT-loop
 Inv-loop waiting slots queue map₀ moved₀ map moved =

@@ -1,7 +1,7 @@
-use Rattle.ms622424_queue.proofs.Cleared.{cleared}
+use Rattle.ms622424_clear.proofs.Cleared.{cleared}
 use borrow.Author.Needs.{needs}
-use Rattle.ms622424_queue.proofs.empty.Statement.{statement}
-use Rattle.ms622424_queue.proofs.empty.Tie as tie
+use Rattle.ms622424_clear.proofs.empty.Statement.{statement}
+use Rattle.ms622424_clear.proofs.empty.Tie as tie
 
 returns : tie.Need-returns
 returns c =

@@ -3,10 +3,10 @@ use mathlib.Core.Path.{_≡_}
 use mathlib.Core.List.{_++_}
 use native.Mathlib.Omega.{arith}
 use lib.ListN.{length, drop}
-use Rattle.ms622424_queue.proofs.Cleared.{zeroed, clear-none, clear-next}
+use Rattle.ms622424_clear.proofs.Cleared.{zeroed, clear-none, clear-next}
 use borrow.Author.Needs.{needs}
-use Rattle.ms622424_queue.proofs.clear.Statement.{statement}
-use Rattle.ms622424_queue.proofs.clear.Tie as tie
+use Rattle.ms622424_clear.proofs.clear.Statement.{statement}
+use Rattle.ms622424_clear.proofs.clear.Tie as tie
 
 abbrev Inv-loop : tie.InvT-loop
 Inv-loop queue₀ from to i₀ queue i =
