@@ -1,7 +1,7 @@
 use Rattle.hold.proofs.Texts.{hears-line, hears-part}
 use borrow.Author.Needs.{needs}
-use Rattle.hold.proofs.hear.Statement.{statement}
-use Rattle.hold.proofs.hear.Tie as tie
+use Rattle.hold_hear.proofs.hear.Statement.{statement}
+use Rattle.hold_hear.proofs.hear.Tie as tie
 
 pub hear-spec : {M : Type 1} → statement M
 hear-spec =
