@@ -1,21 +1,14 @@
 // One entry's calls into a buffer: its address write, unless it follows the entry before it, and its colour's three.
 //
 // Document 01, "The sheet and its calls", decides; the calls are `entryCalls` of calls' specs/Calls.antt. A call is two
-// bytes, select and byte; bytes past them keep their values. Not modelled: as in calls.
-ghost use mathlib.Core.Path.{_≡_};
+// bytes, select and byte; bytes past them keep their values. The colour's are in calls_colour. Not modelled: as in
+// calls.
 ghost use mathlib.Core.List.{[], _∷_};
-ghost use Prim.Native.Nat.{_+_, _%_, _≤_, _<_};
+ghost use Prim.Native.Nat.{_+_, _≤_};
 ghost use lib.ListN.{length};
 ghost use Rattle.sheet.specs.Sheet.{Wrote};
 ghost use Rattle.sheet.specs.Kept.{lineFor};
-ghost use Rattle.calls.specs.Calls.{call, addressCalls, colourCalls, entryCalls, callBytes};
-
-// The low four bits.
-fn low(x: u16) -> u8
-    ensures { λ r. ⌜ r ≡ x % 16 ⌝ }
-{
-    (x % 16) as u8
-}
+ghost use Rattle.calls.specs.Calls.{call, addressCalls, entryCalls, callBytes};
 
 // A call into a buffer from a place on.
 fn put_call(out: &mut [u8], at: usize, select: u8, byte: u8) -> usize
@@ -38,23 +31,6 @@ fn put_address(out: &mut [u8], at: usize, follows: bool, entry: u8) -> usize
     put_call(out, at, 0, entry)
 }
 
-// A colour's three writes.
-fn put_colour(out: &mut [u8], at: usize, select: u8, v: u16) -> usize
-    requires { ⌜ (v < 4096) × (at + 6 ≤ length (now out)) ⌝ }
-    ensures { λ r. ⌜ Wrote (now (out .entry)) at (callBytes (colourCalls select v)) r (now (out .exit)) ⌝ }
-{
-    let r = low(v / 16 / 16);
-    let g = low(v / 16);
-    let b = low(v);
-    out[at] = select;
-    out[at + 1] = r;
-    out[at + 2] = select;
-    out[at + 3] = g;
-    out[at + 4] = select;
-    out[at + 5] = b;
-    at + 6
-}
-
 // An entry's calls; none where it is missing.
 pub fn put_entry(
     out: &mut [u8],
@@ -72,5 +48,5 @@ pub fn put_entry(
         return at;
     }
     let from = put_address(out, at, follows, entry);
-    put_colour(out, from, select, kept)
+    calls_colour::put_colour(out, from, select, kept)
 }

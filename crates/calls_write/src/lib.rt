@@ -1,51 +1,16 @@
 // A good sheet's calls, written into a lent buffer from what the reader kept of the sheet.
 //
-// Document 01, "The sheet and its calls", decides; the list is `callsOf` of calls' specs/Calls.antt: the registers, and
-// the two tables of calls_table behind them. Bytes past the list keep their values. Not modelled: as in calls.
+// Document 01, "The sheet and its calls", decides; the list is `callsOf` of calls' specs/Calls.antt: the registers of
+// calls_registers, and the two tables of calls_table behind them. Bytes past the list keep their values. Not
+// modelled: as in calls.
 ghost use mathlib.Core.Path.{_≡_};
-ghost use mathlib.Core.List.{[], _∷_, map};
-ghost use Prim.Native.Nat.{_≤_, _<_};
+ghost use mathlib.Core.List.{map};
+ghost use Prim.Native.Nat.{_≤_};
 ghost use lib.ListN.{length};
-ghost use Rattle.sheet.specs.Sheet.{registersOf, pasted, Wrote};
+ghost use Rattle.sheet.specs.Sheet.{pasted};
 ghost use Rattle.sheet.specs.Kept.{lineFor};
-ghost use Rattle.calls.specs.Calls.{registerCalls, tablesCalls, callsOf, callBytes};
+ghost use Rattle.calls.specs.Calls.{tablesCalls, callsOf, callBytes};
 ghost use Rattle.calls.specs.Kept.{Kept};
-
-fn narrow(x: u16) -> u8
-    requires { ⌜ x < 256 ⌝ }
-    ensures { λ r. ⌜ r ≡ x ⌝ }
-{
-    x as u8
-}
-
-// The registers' calls.
-fn put_registers(out: &mut [u8], read: u8, blink: u8, control: u8, timing: u8) -> usize
-    requires { ⌜ 8 ≤ length (now out) ⌝ }
-    ensures { λ r. ⌜ Wrote (now (out .entry)) 0 (4 ∷ read ∷ 5 ∷ blink ∷ 6 ∷ control ∷ 7 ∷ timing ∷ []) r
-        (now (out .exit)) ⌝ }
-{
-    out[0] = 4;
-    out[1] = read;
-    out[2] = 5;
-    out[3] = blink;
-    out[4] = 6;
-    out[5] = control;
-    out[6] = 7;
-    out[7] = timing;
-    8
-}
-
-fn register_calls(kept: &[u16], out: &mut [u8]) -> usize
-    requires { ⌜ Kept (now kept) × (8 ≤ length (now out)) ⌝ }
-    ensures { λ r. ⌜ Wrote (now (out .entry)) 0
-        (callBytes (registerCalls 4 (registersOf (map lineFor (now (kept .entry)))))) r (now (out .exit)) ⌝ }
-{
-    let read = narrow(kept[1]);
-    let blink = narrow(kept[2]);
-    let control = narrow(kept[3]);
-    let timing = narrow(kept[4]);
-    put_registers(out, read, blink, control, timing)
-}
 
 // The overlays' calls, and the calls for the table in the rest of the same buffer, which is lent on.
 fn tables_calls(kept: &[u16], out: &mut [u8])
@@ -63,6 +28,6 @@ pub fn write_calls(kept: &[u16], out: &mut [u8])
     ensures { λ _. ⌜ now (out .exit)
         ≡ pasted (now (out .entry)) 0 (callBytes (callsOf (map lineFor (now (kept .entry))))) ⌝ }
 {
-    let n = register_calls(kept, out);
+    let n = calls_registers::register_calls(kept, out);
     tables_calls(kept, &mut out[n..]);
 }

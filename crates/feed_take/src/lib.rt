@@ -66,7 +66,7 @@ pub fn take(
     ensures { λ r. ⌜ Same (handed (board .b) (now (queue .entry)) (now (map .entry)))
         (handed (r .step .board .b) (now (queue .exit)) (now (map .exit))) ⌝ }
 {
-    let h = hold::hear(text, hold, len);
+    let h = hold_hear::hear(text, hold, len);
     if h.ends {
         let line = h.line;
         return after(

@@ -1,18 +1,17 @@
-// The bytes of a log's line while it is being read: they are held in lent room, and what they say at the line's end.
+// The bytes of a log's line while it is being read: they are held in lent room.
 //
 // The replay's description decides: LF ends a line, and a line of another shape than the forms is bad, of any length.
-// specs/Hold.antt says what is held (`heldOf`), and `hear` equals it for any text, room and count. Not modelled: where
-// the bytes come from, and what a line's call does, which is the board's.
+// specs/Hold.antt says what is held (`heldOf`), and `scan` equals it for any text, room and count. What the held
+// bytes say is in hold_hear. Not modelled: where the bytes come from, and what a line's call does, which is the
+// board's.
 use log::Line;
 ghost use mathlib.Core.Path.{_≡_};
-ghost use lib.ListN.{take as firstOf};
-ghost use Rattle.log.specs.Log.{lineOf};
-ghost use Rattle.hold.specs.Hold.{hold as held, holding, before, heldOf, Hears};
+ghost use Rattle.hold.specs.Hold.{hold as held, holding, before, heldOf};
 
 // How many bytes stand before the first LF, and how many are held then.
-struct Span {
-    before: usize,
-    len: usize,
+pub struct Span {
+    pub before: usize,
+    pub len: usize,
 }
 
 // What the held bytes say, whether they are a whole line, how many are held on, and how many of the text were taken.
@@ -21,16 +20,6 @@ pub struct Heard {
     pub ends: bool,
     pub len: usize,
     pub taken: usize,
-}
-
-// What the held bytes say.
-fn said(hold: &[u8], len: usize) -> Line
-    ensures { λ r. ⌜ r ≡ lineOf (firstOf len (now (hold .entry))) ⌝ }
-{
-    if len <= hold.len() {
-        return log_parse::parse(&hold[..len]);
-    }
-    log_parse::parse(hold)
 }
 
 // A byte that ends no line is held while there is room: how many are held then.
@@ -45,7 +34,7 @@ fn hold_byte(b: u8, hold: &mut [u8], len: usize) -> usize
 }
 
 // The bytes before the first LF are held while there is room.
-fn scan(text: &[u8], hold: &mut [u8], len: usize) -> Span
+pub fn scan(text: &[u8], hold: &mut [u8], len: usize) -> Span
     ensures { λ r. ⌜ (r .before ≡ before (now (text .entry)))
         × (held (now (hold .exit)) (r .len) ≡ heldOf (now (text .entry)) (held (now (hold .entry)) len)) ⌝ }
 {
@@ -60,26 +49,4 @@ fn scan(text: &[u8], hold: &mut [u8], len: usize) -> Span
         i += 1;
     }
     Span { before: i, len: n }
-}
-
-// A text heard up to its first LF, or all of it.
-pub fn hear(text: &[u8], hold: &mut [u8], len: usize) -> Heard
-    ensures { λ r. ⌜ Hears r (now (text .entry)) (held (now (hold .entry)) len) (now (hold .exit)) ⌝ }
-{
-    let s = scan(text, hold, len);
-    let line = said(hold, s.len);
-    if s.before < text.len() {
-        return Heard {
-            line: line,
-            ends: true,
-            len: 0,
-            taken: s.before + 1,
-        };
-    }
-    Heard {
-        line: line,
-        ends: false,
-        len: s.len,
-        taken: s.before,
-    }
 }

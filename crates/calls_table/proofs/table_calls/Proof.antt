@@ -17,6 +17,10 @@ abbrev μ-loop : tie.MeasureT-loop
 pub table-calls-spec : {M : Type 1} → statement M
 table-calls-spec =
     tie.close
-    (tie.spec Inv-loop μ-loop (λ c. search (begins, needs)) (λ c. search needs) (λ c. search needs)
-    (λ c. search needs) (λ c κs. search (entry-fits, needs)) (λ c. search needs) (λ c. search needs)
-    (λ c. search (next-entry, needs)) (λ c. search needs) (λ c. search (last-entry, needs)))
+    (tie.spec Inv-loop μ-loop (λ c. (search needs, begins _ _ (c .before .before .pre .1))) (λ c. search needs)
+    (λ c. search needs) (λ c. search needs) (λ c κs. search (entry-fits, needs)) (λ c. search needs)
+    (λ c. search needs)
+    (λ c.
+    let l = c .before .before .before .before .before .before .loop in
+    (search needs, next-entry _ _ _ _ _ _ _ (l .inv .1) (search needs) (c .before .before .put-entry .ensures)))
+    (λ c. search needs) (λ c. search (last-entry, needs)))

@@ -16,4 +16,8 @@ tables-calls-spec =
     tie.close
     (tie.spec (λ c. search needs) (λ c. search needs) (λ c. search needs) (λ c κs. (search needs, search parts))
     (λ c. search needs) (λ c. search needs) (λ c. search needs) (λ c. search parts) part-start (λ c. search needs)
-    (λ c κs. (search needs, search parts)) (λ c. search needs) (λ c. search parts))
+    (λ c κs.
+    let t = c .before .before .before .before in
+    let s = t .before .before .before .before .before in
+    (search needs, tables-room (s .args .kept .now) _ (s .pre .1) (t .table-calls .ensures)))
+    (λ c. search needs) (λ c. search parts))

@@ -6,5 +6,5 @@ use Rattle.hold.proofs.hold_byte.Tie as tie
 pub hold-byte-spec : {M : Type 1} → statement M
 hold-byte-spec =
     tie.close
-    (tie.spec (λ c. search needs) (λ c. search needs) (λ c. search needs) (λ c. search holds-room)
-    (λ c. search holds-full))
+    (tie.spec (λ c. search needs) (λ c. search needs) (λ c. search needs)
+    (λ c. holds-room _ _ _ (c .if1 .taken)) (λ c. search holds-full))

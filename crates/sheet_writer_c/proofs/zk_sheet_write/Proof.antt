@@ -1,5 +1,4 @@
-use mathlib.Core.Path.{ap, _∙_}
-use Rattle.sheet.specs.Sheet.{telling}
+use mathlib.Core.Path.{sym}
 use borrow.Author.Needs.{needs}
 use Rattle.sheet_writer_c.proofs.zk_sheet_write.Statement.{statement}
 use Rattle.sheet_writer_c.proofs.zk_sheet_write.Tie as tie
@@ -8,4 +7,4 @@ pub zk-sheet-write-spec : {M : Type 1} → statement M
 zk-sheet-write-spec =
     tie.close
     (tie.spec (λ c. search needs) (λ c. search needs) (λ c. search needs)
-    (λ c. c .told .ensures _ ∙ ap telling (c .before .before .before .write-sheet .ensures)))
+    (λ c. rw (sym (c .before .before .before .write-sheet .ensures)) (c .told .ensures _)))

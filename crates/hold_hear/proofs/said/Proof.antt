@@ -2,8 +2,8 @@ use mathlib.Core.Path.{sym}
 use native.Mathlib.Omega.{arith}
 use lib.Seq.{length-take-le, take-all}
 use borrow.Author.Needs.{needs}
-use Rattle.hold.proofs.said.Statement.{statement}
-use Rattle.hold.proofs.said.Tie as tie
+use Rattle.hold_hear.proofs.said.Statement.{statement}
+use Rattle.hold_hear.proofs.said.Tie as tie
 
 slice-aggregate-parse : tie.Need-slice-aggregate-parse
 slice-aggregate-parse c =

@@ -1,7 +1,7 @@
 use Rattle.calls.proofs.Stored.{register-wrote}
 use borrow.Author.Needs.{needs}
-use Rattle.calls_write.proofs.register_calls.Statement.{statement}
-use Rattle.calls_write.proofs.register_calls.Tie as tie
+use Rattle.calls_registers.proofs.register_calls.Statement.{statement}
+use Rattle.calls_registers.proofs.register_calls.Tie as tie
 
 pub register-calls-spec : {M : Type 1} → statement M
 register-calls-spec =
