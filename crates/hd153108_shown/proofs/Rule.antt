@@ -1,5 +1,5 @@
--- Laws of the pixel rule: which refusal, and which entry shows, as the code knows it, so that a search closes its
--- walk; then what whoever is given the decision knows. Assumes nothing.
+-- Laws of the pixel rule: which refusal, and which entry shows, as the code knows it; then what whoever is given the
+-- decision knows. Assumes nothing.
 use Prim.Native.Nat.{ℕ, zero, suc, _/_, _≤_, _<_}
 use mathlib.Core.Path.{_≡_, refl, sym, ap, _∙_}
 use mathlib.Core.List.{List, [], _∷_, _++_}

@@ -1,13 +1,14 @@
--- How the arms of a data write end, with the address after it as the code makes it. Assumes nothing.
+-- How the arms of a data write end, with the address after it as the code makes it, and those that a part of the call
+-- has served. Assumes nothing.
 use Prim.Native.Nat.{ℕ, _%_}
-use mathlib.Core.Path.{_≡_, refl, ap, _∙_}
+use mathlib.Core.Path.{_≡_, refl, sym, ap, _∙_}
 use mathlib.Core.List.{List}
 use Rattle.vocabulary.specs.Component.{componentAt}
 use Rattle.hd153108.specs.declared.State.{State}
 use Rattle.hd153108.specs.declared.Answer.{Answer}
 use Rattle.hd153108.specs.Hd153108.{chip, registerAt, written, dataWrite, colour, overlay, next, stepped, latched}
-use Rattle.hd153108.specs.Hd153108.{stored, writes, called, accept, outcome}
-use Rattle.hd153108.proofs.Access.{tried, Access, served}
+use Rattle.hd153108.specs.Hd153108.{stored, InRange, writes, called, accept, outcome}
+use Rattle.hd153108.proofs.Access.{tried, known, Access, served}
 
 module _ (s : State) (cs os : List ℕ) (a : Answer) {n select byte : ℕ} (e : n ≡ tried (chip s cs os))
     (u : Access (writes select byte)) where
@@ -25,3 +26,9 @@ module _ (s : State) (cs os : List ℕ) (a : Answer) {n select byte : ℕ} (e : 
       → outcome a cs ps ≡ called (writes select byte) (chip s cs os)
   unfolding registerAt written dataWrite
   overlay-written ps h k f g p d = served s cs os a e u cs ps h k f (g ∙ ap moves p) refl (rw d)
+
+pub register-served : (s : State) (cs os : List ℕ) (a : Answer) (select k byte : ℕ) {n : ℕ} → n ≡ tried (chip s cs os)
+    → n ≡ 0 → select ≡ k
+    → ((ds ps : List ℕ) → InRange (chip s ds ps) → outcome a ds ps ≡ called (writes k byte) (chip s ds ps))
+    → outcome a cs os ≡ called (writes select byte) (chip s cs os)
+register-served s cs os a select k byte e h m f = rw m (f cs os (known _ (sym e ∙ h)))

@@ -1,17 +1,15 @@
-// The HD153108's write access (chip A): the address, the data of either table (hd153108_data_write), the registers.
+// The HD153108's write access (chip A): the data of either table (hd153108_data_write), the address and the other
+// registers (hd153108_set).
 //
 // Source document 003, Register Mapping, Access to CLT/OLT and Internal Registers, with document 01's rulings,
 // decides; the rule is `called` of `writes` in hd153108's specs/Hd153108.antt. Not modelled: as there.
 use hd153108::Answer;
-use hd153108::Clock;
 use hd153108::State;
 use hd153108_data_write::data_write;
 use hd153108_port::accepted;
 use hd153108_port::next_colour;
 use hd153108_port::next_overlay;
-use hd153108_port::port;
 use hd153108_port::refused;
-use hd153108_port::registers;
 use hd153108_port::standing;
 ghost use mathlib.Core.Path.{_≡_};
 ghost use Rattle.hd153108.specs.Hd153108.{chip, outcome, writes, called};
@@ -33,27 +31,17 @@ pub extern "C" fn zk_a_write(
         return refused(refusal, s);
     }
     let a = s.address;
-    let k = s.clock;
     match select {
-        0 => accepted(0, port(s, byte, 0, s.red, s.green)),
+        0 => hd153108_set::set_address(s, byte),
         1 => accepted(0, data_write(s, byte, colours, a as usize, next_colour(a))),
         3 => accepted(
             0,
             data_write(s, byte, overlays, (a % 4) as usize, next_overlay(a)),
         ),
-        4 => accepted(0, registers(s, byte, s.blinkmask, s.control, k)),
-        5 => accepted(0, registers(s, s.readmask, byte, s.control, k)),
-        6 => accepted(0, registers(s, s.readmask, s.blinkmask, byte & 79, k)),
-        7 => {
-            let restarted = Clock {
-                timing: byte,
-                position: 0,
-            };
-            accepted(
-                0,
-                registers(s, s.readmask, s.blinkmask, s.control, restarted),
-            )
-        }
+        4 => hd153108_set::set_read_mask(s, byte),
+        5 => hd153108_set::set_blink_mask(s, byte),
+        6 => hd153108_set::set_control(s, byte),
+        7 => hd153108_set::set_timing(s, byte),
         _ => refused(3, s),
     }
 }

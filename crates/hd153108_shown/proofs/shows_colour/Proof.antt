@@ -2,7 +2,9 @@ use Rattle.hd153108_shown.proofs.Rule.{without-enable, without-b6, with
 use Rattle.hd153108_shown.proofs.shows_colour.Statement.{statement}
 use Rattle.hd153108_shown.proofs.shows_colour.Tie as tie
 
-ruleset ends = (without-enable, without-b6, with-b6)
-
 pub shows-colour-spec : {M : Type 1} → statement M
-shows-colour-spec = tie.close (tie.spec (λ c. search ends) (λ c. search ends) (λ c. search ends))
+shows-colour-spec =
+    tie.close
+    (tie.spec (λ c. without-enable _ _ _ (c .if1 .taken))
+    (λ c. without-b6 _ _ _ (c .before .if1 .left) (c .if2 .taken))
+    (λ c. with-b6 _ _ _ (c .before .if1 .left) (c .if2 .left)))
