@@ -12,8 +12,8 @@ fn told(e: Expanded) -> u64
     ensures { λ r. ⌜ decoded r ≡ telling (meaning e) ⌝ }
 {
     match e {
-        Expanded::Ten(t) => vocabulary::packed(0, t, 0, 0),
-        Expanded::Refused => vocabulary::packed(9, 0, 0, 0),
+        Expanded::Ten(t) => reply::packed(0, t, 0, 0),
+        Expanded::Refused => reply::packed(9, 0, 0, 0),
     }
 }
 

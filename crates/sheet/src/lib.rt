@@ -23,7 +23,7 @@ pub fn told(a: Answer) -> u64
     ensures { λ r. ⌜ Tells r a ⌝ }
 {
     match a {
-        Answer::Done(count) => vocabulary::packed(0, 0, count, 0),
-        Answer::Refused(n, line) => vocabulary::packed(n, 0, 0, line),
+        Answer::Done(count) => reply::packed(0, 0, count, 0),
+        Answer::Refused(n, line) => reply::packed(n, 0, 0, line),
     }
 }

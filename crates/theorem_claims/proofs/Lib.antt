@@ -1,4 +1,3 @@
-pub mod Edges
 pub mod Determined
 pub mod CallsA
 pub mod CallsB
@@ -6,7 +5,4 @@ pub mod CallsC
 pub mod Counts
 pub mod CallsSheet
 pub mod Kept
-pub mod MovesA
-pub mod MovesB
-pub mod MovesC
 pub mod Impostors

@@ -1,8 +1,8 @@
 use Rattle.ms622424.specs.Ms622424.{taken, stepped}
-use Rattle.ms622424_palette.proofs.Arms.{takes-red, takes-green, takes-blue}
+use Rattle.ms622424_take.proofs.Takes.{takes-red, takes-green, takes-blue}
 use borrow.Author.Needs.{needs}
-use Rattle.ms622424_palette.proofs.take_byte.Statement.{statement}
-use Rattle.ms622424_palette.proofs.take_byte.Tie as tie
+use Rattle.ms622424_take.proofs.take_byte.Statement.{statement}
+use Rattle.ms622424_take.proofs.take_byte.Tie as tie
 
 returns-3 : tie.Need-returns-3
 unfolding taken stepped

@@ -19,7 +19,7 @@ use Rattle.ms622424.specs.Ms622424.{readable, answers, activeLow, mark, statusO
 use Rattle.ms622424.specs.Ms622424.{resets, refusals, does, called}
 use Rattle.ms622424.proofs.Read.{read-does}
 use Rattle.ms622424.proofs.Kept.{fresh-in-range}
-use Rattle.theorem_claims.specs.Edges.{Answers, Fresh, Status, Edges}
+use Rattle.theorem_edges.specs.Edges.{Answers, Fresh, Status, Edges}
 
 -- the status byte at counter 0, of command bit 4 and how many wait
 edgeStatus : ℕ → ℕ → ℕ

@@ -13,8 +13,8 @@ use Rattle.rgb640.specs.Rgb640.{nowhere, spaceOf, Register, indexLow, indexHigh
 use Rattle.rgb640.specs.Rgb640.{served, dataWritten, wrote, dataRead, told, answers}
 use Rattle.rgb640.specs.Rgb640.{writes, reads, refusals, does, called}
 use Rattle.rgb640.proofs.Index.{space-holds}
-use Rattle.theorem_claims.specs.MovesC.{PlaceAlone, PaletteAlone, RegisterAlone, DataWriteLeaves}
-use Rattle.theorem_claims.specs.MovesC.{DataReadLeaves, WriteLeaves, ReadLeaves}
+use Rattle.theorem_moves.specs.MovesC.{PlaceAlone, PaletteAlone, RegisterAlone, DataWriteLeaves}
+use Rattle.theorem_moves.specs.MovesC.{DataReadLeaves, WriteLeaves, ReadLeaves}
 
 -- ---- as it was
 kept-by-write : (r : Register) (c : Chip) → WriteLeaves r c c

@@ -11,7 +11,7 @@ use Rattle.hd153108.specs.Hd153108.{overlayControl, blinkTiming, Table, colour,
 use Rattle.hd153108.specs.Hd153108.{stepped, latched, stored, dataWrite, written, answers, withState, withTable}
 use Rattle.hd153108.specs.Hd153108.{writes, reads, refusals, does, called}
 use Rattle.hd153108.proofs.Keep.{SameTables}
-use Rattle.theorem_claims.specs.MovesA.{WriteLeaves, ReadLeaves}
+use Rattle.theorem_moves.specs.MovesA.{WriteLeaves, ReadLeaves}
 
 -- ---- as it was
 kept-by-write : (r : Register) (c : Chip) → WriteLeaves r c c

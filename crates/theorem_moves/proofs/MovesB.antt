@@ -10,8 +10,8 @@ use Rattle.ms622424.specs.Ms622424.{revision, initialization, none, registerAt,
 use Rattle.ms622424.specs.Ms622424.{complete, Moves, moves, roomMade, taken, withPort, withQueue, written, answers}
 use Rattle.ms622424.specs.Ms622424.{writes, reads, blanks, pixels, signals, refusals, does, called}
 use Rattle.ms622424.proofs.Moves.{moves-are, room-cases}
-use Rattle.theorem_claims.specs.MovesB.{QueueAlone, PaletteAlone, PlaceAlone, CounterAlone, WriteLeaves}
-use Rattle.theorem_claims.specs.MovesB.{ReadLeaves}
+use Rattle.theorem_moves.specs.MovesB.{QueueAlone, PaletteAlone, PlaceAlone, CounterAlone, WriteLeaves}
+use Rattle.theorem_moves.specs.MovesB.{ReadLeaves}
 
 -- ---- as it was
 kept-by-write : (r : Register) (c : Chip) → WriteLeaves r c c

@@ -1,0 +1,3 @@
+pub mod MovesA
+pub mod MovesB
+pub mod MovesC
