@@ -15,6 +15,11 @@ given c = view (handed (c .args .s) (c .args .queue .now) (c .args .map .now))
 known : (c : tie.Else1) → InRange (given (c .before .before .before .before .before))
 known c = past _ (c .before .standing-tables .ensures) (c .if1 .left)
 
+returns-2 : tie.Need-returns-2
+returns-2 c =
+    refuses _ _ _ _ _ (c .refused2 .ensures)
+    (blank-too-many _ _ (known (c .before .before)) (c .before .if2 .taken))
+
 returns-3 : tie.Need-returns-3
 returns-3 c =
     let moved = c .before .before .before .before .before in
@@ -26,5 +31,5 @@ zk-b-blank-spec =
     tie.close
     (tie.spec (λ c κs. search needs) (λ c κs. search needs) (λ c. search needs)
     (λ c. search (refuses, tried, needs)) (λ c κs. search needs) (λ c. search needs)
-    (λ c. search (refuses, known, blank-too-many, needs)) (λ c κs. known (c .before .before .before))
+    returns-2 (λ c κs. known (c .before .before .before))
     (λ c κs. search needs) (λ c. search needs) (λ c. search needs) returns-3)
