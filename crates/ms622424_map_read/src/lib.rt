@@ -1,5 +1,5 @@
-// The MS622424's map, as a read of the Color Palette finds it: refused outside read mode or while entries wait, else the
-// byte at the address and the counter.
+// The MS622424's map, as a read of the Color Palette finds it: refused outside read mode or while entries wait, else
+// the byte at the address and the counter.
 //
 // Source document 004, "Truth Table" and "Internal Registers", and document 01, "Chip B", decide; ms622424's
 // specs/Ms622424.antt says it (`answers`, `readRefusals`). Not modelled: the pixels that a read of the map disturbs.

@@ -1,4 +1,4 @@
-// The MS622424's Color Palette Buffer, as a write finds it: refused in read mode, else room in the queue, then the byte.
+// The MS622424's Color Palette Buffer, as a write finds it: refused in read mode, else room is made, then the byte.
 //
 // Source document 004, "Write FIFO", and document 01, "Chip B", decide; ms622424's
 // specs/Ms622424.antt says it (`written`). Not modelled: what the output shows during a transfer.

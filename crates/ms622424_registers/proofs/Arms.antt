@@ -7,8 +7,8 @@ use lib.Dec.{eqb}
 use lib.ListN.{length}
 use Rattle.vocabulary.specs.Outcome.{accepting}
 use Rattle.vocabulary.specs.Component.{componentAt}
-use Rattle.ms622424.specs.Ms622424.{InRange, registerAt, selected, withPort, buffer, bufferByte, bufferStepped, readable}
-use Rattle.ms622424.specs.Ms622424.{answers, reads, called}
+use Rattle.ms622424.specs.Ms622424.{InRange, registerAt, selected, withPort, buffer, bufferByte, bufferStepped}
+use Rattle.ms622424.specs.Ms622424.{readable, answers, reads, called}
 use Rattle.ms622424.proofs.Access.{is-blue}
 use Rattle.ms622424.proofs.Read.{read-does, read-buffer, read-no-blue}
 use Rattle.ms622424_places.specs.declared.Answer.{Answer}

@@ -1,7 +1,7 @@
 // The MS622424's map, as a transfer writes it: the oldest waiting entries, each at its address.
 //
 // Source document 004, "Write FIFO", and document 01, "Chip B", decide; ms622424's specs/Ms622424.antt says it
-// (`stored`, `allStored`), and ms622424_places how a place holds an entry. Not modelled: what the output shows meanwhile.
+// (`stored`, `allStored`), and ms622424_places how a place holds an entry. Not modelled: what the output shows then.
 ghost use mathlib.Core.Path.{_≡_};
 ghost use Prim.Native.Nat.{ℕ, _^_, _≤_, _<_, min};
 ghost use lib.ListN.{length, getD, take};

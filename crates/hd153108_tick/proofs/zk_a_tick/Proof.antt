@@ -141,7 +141,8 @@ module _
         (C : Calls 𝓤 H) (Λ : Loops 𝓤 H) (fm : FmC 𝓤 H (W .laws) C)
         (known : Triple 𝓤 (C #step) (Step 𝓤 H A at-mem run))
       where
-        walk : ent 𝓤 (onEntry 𝓤 H A tick.signature (κ, tt) (q, tt) x at) (WpFn 𝓤 H C Λ code.function (vptr b o ∷ []) Post)
+        walk : ent 𝓤 (onEntry 𝓤 H A tick.signature (κ, tt) (q, tt) x at)
+            (WpFn 𝓤 H C Λ code.function (vptr b o ∷ []) Post)
         walk =
             qed W ((‵ (flft κ q) ⊛ ‵ ftrue) ∷ ‵ (owns (MutRef (named 0) κ T.the-row ∷ []) x at) ∷ []) ∵
             split ! $ move ! (2 ∷ []) $ fsplit ! $ fsplit3 ! $ drop ! $ move ! (0 ∷ 1 ∷ 3 ∷ []) $
@@ -167,7 +168,8 @@ module _
             calls-at ! fm (Step 𝓤 H A at-mem run) known to-step
             (and-then ! (load ! (from ! (stop !)) (look ! 8 refl))
             (and-then ! (load ! (from ! (stop !)) (look ! 6 refl)) (no-more !))) (λ v.
-            use1 W (later (some (λ (r : Next). (‵ ftrue ⊛ ‵ (N.the-row .own r (v ∷ []))) ⊛ raw (Ensured r)))) (id⊢ 𝓤 _) $
+            use1 W (later (some (λ (r : Next). (‵ ftrue ⊛ ‵ (N.the-row .own r (v ∷ []))) ⊛ raw (Ensured r))))
+            (id⊢ 𝓤 _) $
             await ! tt $ pick ! (λ r. split ! $ move ! (1 ∷ []) $
             use1 W (raw (fact 𝓤 (Ticked (r .position) (r .refusal)))) (stepped-of r) $
             heard ! (Ticked (r .position) (r .refusal)) (λ e. split ! $ drop ! $

@@ -9,4 +9,5 @@ pub end-read-mode-spec : {M : Type 1} → statement M
 unfolding registerAt readable answers
 end-read-mode-spec =
     tie.close
-    (tie.spec (λ c κs. search needs) (λ c q m h. register-served _ q m _ h 7 (c .accepted .ensures) refl refl refl refl))
+    (tie.spec (λ c κs. search needs)
+    (λ c q m h. register-served _ q m _ h 7 (c .accepted .ensures) refl refl refl refl))

@@ -9,4 +9,5 @@ pub read-ident-spec : {M : Type 1} → statement M
 unfolding registerAt readable answers
 read-ident-spec =
     tie.close
-    (tie.spec (λ c. search needs) (λ c. search needs) (λ c κs. search needs) (λ c q m h. register-served _ q m _ h 6 (c .accepted .ensures) refl refl refl refl))
+    (tie.spec (λ c. search needs) (λ c. search needs) (λ c κs. search needs)
+    (λ c q m h. register-served _ q m _ h 6 (c .accepted .ensures) refl refl refl refl))
