@@ -107,25 +107,56 @@ fn taken(s: Stand, f: Fed, waiting: usize) -> Stand
     n
 }
 
+// A text that was read, put to the board, and its answer behind what waits.
+fn turn(
+    s: Stand,
+    text: &[u8],
+    hold: &mut [u8; 16],
+    colours: &mut [u8; 768],
+    overlays: &mut [u8; 12],
+    queue: &mut [u64; 64],
+    map: &mut [u8; 24576],
+    table: &mut [u16; 3072],
+    page: &mut [u8; 2134],
+    out: &mut [u8; 65536],
+) -> Stand
+    requires { ⌜ s .at + length (now text) < 2 ^ 64 ⌝ }
+    ensures { λ r. ⌜ r .turns ≡ s .turns ⌝ }
+{
+    let f = feed_take::take(
+        s.board,
+        s.len,
+        text,
+        hold,
+        colours,
+        overlays,
+        queue,
+        map,
+        table,
+        page,
+    );
+    let step = f.step;
+    taken(s, f, say(step, page, out, s.waiting))
+}
+
 // The whole log.
 fn replay(
     start: Stand,
-    chunk: &mut [u8],
-    hold: &mut [u8],
-    colours: &mut [u8],
-    overlays: &mut [u8],
-    queue: &mut [u64],
-    map: &mut [u8],
-    table: &mut [u16],
-    page: &mut [u8],
-    out: &mut [u8],
+    chunk: &mut [u8; 65536],
+    hold: &mut [u8; 16],
+    colours: &mut [u8; 768],
+    overlays: &mut [u8; 12],
+    queue: &mut [u64; 64],
+    map: &mut [u8; 24576],
+    table: &mut [u16; 3072],
+    page: &mut [u8; 2134],
+    out: &mut [u8; 65536],
 ) {
     let mut s = start;
     while s.turns > 0 {
         s = next(s, chunk);
-        let f = feed_take::take(
-            s.board,
-            s.len,
+        s = turn(
+            s,
             rest(chunk, s.at, s.got),
             hold,
             colours,
@@ -134,9 +165,8 @@ fn replay(
             map,
             table,
             page,
+            out,
         );
-        let step = f.step;
-        s = taken(s, f, say(step, page, out, s.waiting));
     }
     printer::flush(out, s.waiting);
 }
