@@ -10,7 +10,7 @@ Inv-loop chunk₀ hold₀ colours₀ overlays₀ queue₀ map₀ table₀ page�
 
 abbrev μ-loop : tie.MeasureT-loop
 μ-loop chunk₀ hold₀ colours₀ overlays₀ queue₀ map₀ table₀ page₀ out₀ s₀ chunk hold colours overlays queue map table page
-    out s = s .turns
+    out s = s .input .turns
 
 loop-less : tie.Need-loop-less Inv-loop μ-loop
 loop-less c =

@@ -7,7 +7,7 @@ use Rattle.replay.proofs.turn.Tie as tie
 
 taken-requires : tie.Need-taken-requires
 taken-requires c κs =
-    let t = c .before .before .before .before .before in
+    let t = c .before .before .before .before in
     let start = t .before .before .before .before .before .before .before .before .before in
     omega (arith, t .take .ensures .0, up-to-inside (start .args .text .now), start .pre)
 
