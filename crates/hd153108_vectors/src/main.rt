@@ -93,8 +93,7 @@ fn turn(s: State, line: &[u8], colours: &mut [u8; 768], overlays: &mut [u8; 12])
     }
 }
 
-fn run(text: &[u8], start: State, colours: &mut [u8; 768], overlays: &mut [u8; 12]) {
-    let mut s = start;
+fn run(text: &[u8], mut s: State, colours: &mut [u8; 768], overlays: &mut [u8; 12]) {
     let mut at = 0;
     while at < text.len() {
         let to = script::end(text, at);

@@ -36,8 +36,13 @@ pub fn reset(s: State) -> State {
 }
 
 pub fn registers(s: State) -> State {
-    let k = s.clock;
-    let numbers = [s.readmask, s.blinkmask, s.control, k.timing, k.position];
+    let numbers = [
+        s.readmask,
+        s.blinkmask,
+        s.control,
+        s.clock.timing,
+        s.clock.position,
+    ];
     fields(
         b"readmask=% blinkmask=% overlay=% timing=% position=%\n",
         &numbers,
@@ -60,17 +65,15 @@ pub fn clock(k: Clock) -> Clock {
 // A tick by value, whose answer is printed.
 pub fn tick(k: Clock) -> Clock {
     let a = hd153108_tick::zk_a_step(k);
-    let next = a.clock;
-    let numbers = [a.refusal, next.timing, next.position];
+    let numbers = [a.refusal, a.clock.timing, a.clock.position];
     fields(b"tick refused=% timing=% position=%\n", &numbers);
-    next
+    a.clock
 }
 
 // One after which the clock is.
 pub fn advance(k: Clock) -> Clock {
     let a = hd153108_tick::zk_a_step(k);
-    let next = a.clock;
-    clock(next)
+    clock(a.clock)
 }
 
 fn hex(b: u8) {

@@ -65,14 +65,12 @@ fn datum(line: &[u8], k: usize) -> u8
 }
 
 // A line of colours written.
-fn colours(s: State, line: &[u8], queue: &mut [u64], map: &mut [u8]) -> State {
-    let mut t = s;
+fn colours(mut s: State, line: &[u8], queue: &mut [u64], map: &mut [u8]) -> State {
     for k in 0..count(line) {
-        let a = ms622424_write::zk_b_write(t, 2, datum(line, k), queue, map);
-        let n = a.state;
-        t = n;
+        let a = ms622424_write::zk_b_write(s, 2, datum(line, k), queue, map);
+        s = a.state;
     }
-    t
+    s
 }
 
 // A line whose call leaves all as it is, and its answer.

@@ -88,8 +88,7 @@ fn turn(b: Bench, line: &[u8], queue: &mut [u64; 64], map: &mut [u8; 24577]) -> 
     }
 }
 
-fn run(text: &[u8], start: Bench, queue: &mut [u64; 64], map: &mut [u8; 24577]) {
-    let mut b = start;
+fn run(text: &[u8], mut b: Bench, queue: &mut [u64; 64], map: &mut [u8; 24577]) {
     let mut at = 0;
     while at < text.len() {
         let to = script::end(text, at);

@@ -28,14 +28,17 @@ fn places(address: u16, counter: u8, waiting: u8) {
 
 // An answer, and the state that it left.
 pub fn answer(line: &[u8], a: Answer) -> State {
-    let s = a.state;
     let at = label_at(script::command(line));
     if 0 < at {
         script::rest(line, at);
         values(a.refusal, a.value, a.count);
-        places(s.port.address, s.port.counter, s.fifo.waiting);
+        places(
+            a.state.port.address,
+            a.state.port.counter,
+            a.state.fifo.waiting,
+        );
     }
-    s
+    a.state
 }
 
 pub fn colour(line: &[u8], p: Shown) {

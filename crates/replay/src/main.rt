@@ -148,7 +148,7 @@ fn turn(
 
 // The whole log.
 fn replay(
-    start: Stand,
+    mut s: Stand,
     chunk: &mut [u8; 65536],
     hold: &mut [u8; 16],
     colours: &mut [u8; 768],
@@ -159,7 +159,6 @@ fn replay(
     page: &mut [u8; 2134],
     out: &mut [u8; 65536],
 ) {
-    let mut s = start;
     while s.input.turns > 0 {
         let i = next(s.input, s.len, chunk);
         s = turn(

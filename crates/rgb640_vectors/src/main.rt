@@ -102,8 +102,7 @@ fn turn(s: State, size: usize, line: &[u8], table: &mut [u16; 3072]) -> State {
     s
 }
 
-fn run(text: &[u8], start: State, table: &mut [u16; 3072]) {
-    let mut s = start;
+fn run(text: &[u8], mut s: State, table: &mut [u16; 3072]) {
     let mut size: usize = 3072;
     let mut at = 0;
     while at < text.len() {

@@ -18,8 +18,7 @@ pub fn three(a: u16, b: u16, c: u16) {
 pub fn answer(a: Answer) -> State {
     let numbers = [a.refusal, a.value];
     script::fields(b" #/%", &numbers);
-    let s = a.state;
-    s
+    a.state
 }
 
 // The index and the place.

@@ -5,10 +5,10 @@ use Rattle.ms622424_vectors.proofs.run.Statement.{statement}
 use Rattle.ms622424_vectors.proofs.run.Tie as tie
 
 abbrev Inv-loop : tie.InvT-loop
-Inv-loop text queue₀ map₀ b₀ at₀ queue map b at = Unit {0}
+Inv-loop text b₀ queue₀ map₀ at₀ b queue map at = Unit {0}
 
 abbrev μ-loop : tie.MeasureT-loop
-μ-loop text queue₀ map₀ b₀ at₀ queue map b at = length text - at
+μ-loop text b₀ queue₀ map₀ at₀ b queue map at = length text - at
 
 pub run-spec : {M : Type 1} → statement M
 run-spec =

@@ -5,12 +5,12 @@ use Rattle.replay.proofs.replay.Statement.{statement}
 use Rattle.replay.proofs.replay.Tie as tie
 
 abbrev Inv-loop : tie.InvT-loop
-Inv-loop chunk₀ hold₀ colours₀ overlays₀ queue₀ map₀ table₀ page₀ out₀ s₀ chunk hold colours overlays queue map table
-    page out s = Unit {0}
+Inv-loop s₀ chunk₀ hold₀ colours₀ overlays₀ queue₀ map₀ table₀ page₀ out₀ s chunk hold colours overlays queue map table
+    page out = Unit {0}
 
 abbrev μ-loop : tie.MeasureT-loop
-μ-loop chunk₀ hold₀ colours₀ overlays₀ queue₀ map₀ table₀ page₀ out₀ s₀ chunk hold colours overlays queue map table page
-    out s = s .input .turns
+μ-loop s₀ chunk₀ hold₀ colours₀ overlays₀ queue₀ map₀ table₀ page₀ out₀ s chunk hold colours overlays queue map table
+    page out = s .input .turns
 
 loop-less : tie.Need-loop-less Inv-loop μ-loop
 loop-less c =

@@ -5,10 +5,10 @@ use Rattle.rgb640_vectors.proofs.run.Statement.{statement}
 use Rattle.rgb640_vectors.proofs.run.Tie as tie
 
 abbrev Inv-loop : tie.InvT-loop
-Inv-loop text table₀ s₀ size₀ at₀ table s size at = Unit {0}
+Inv-loop text s₀ table₀ size₀ at₀ s table size at = Unit {0}
 
 abbrev μ-loop : tie.MeasureT-loop
-μ-loop text table₀ s₀ size₀ at₀ table s size at = length text - at
+μ-loop text s₀ table₀ size₀ at₀ s table size at = length text - at
 
 pub run-spec : {M : Type 1} → statement M
 run-spec =

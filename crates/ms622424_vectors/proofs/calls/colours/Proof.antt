@@ -6,11 +6,11 @@ use Rattle.ms622424_vectors.proofs.calls.colours.Statement.{statement}
 use Rattle.ms622424_vectors.proofs.calls.colours.Tie as tie
 
 abbrev Inv-loop : tie.InvT-loop
-Inv-loop line queue₀ map₀ t₀ k₀ k-end queue map t k =
+Inv-loop s₀ line queue₀ map₀ k₀ k-end s queue map k =
     (length queue ≡ length queue₀) × (length map ≡ length map₀) × (k-end ≤ 765)
 
 abbrev μ-loop : tie.MeasureT-loop
-μ-loop line queue₀ map₀ t₀ k₀ k-end queue map t k = k-end - k
+μ-loop s₀ line queue₀ map₀ k₀ k-end s queue map k = k-end - k
 
 pub colours-spec : {M : Type 1} → statement M
 colours-spec =
