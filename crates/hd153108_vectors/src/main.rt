@@ -41,7 +41,7 @@ fn number_entries(t: &mut [u8], first: u8) {
     }
 }
 
-// A line of the blink clock; of any other it stays, and is the label of what follows.
+// A line of the blink clock; any other is the label of what follows.
 fn blink(k: Clock, line: &[u8]) -> Clock {
     match script::command(line) {
         b't' => show::tick(k),

@@ -70,7 +70,7 @@ pub fn tick(k: Clock) -> Clock {
     a.clock
 }
 
-// One after which the clock is.
+// A tick after which the clock is printed.
 pub fn advance(k: Clock) -> Clock {
     let a = hd153108_tick::zk_a_step(k);
     clock(a.clock)

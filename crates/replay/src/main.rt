@@ -10,7 +10,7 @@ ghost use mathlib.Core.Path.{_≡_};
 ghost use Prim.Native.Nat.{_+_, _^_, _<_};
 ghost use lib.ListN.{length};
 
-// How many bytes were read, and how many of those were taken; and the turns that are left, none when the log has ended.
+// How many bytes were read, and how many of those were taken; and the turns that are left, none once the log ended.
 struct Input {
     got: usize,
     at: usize,
