@@ -10,34 +10,26 @@
 //   c colour, o overlay: entry, label            g the registers are printed
 //   k the blink clock is printed                 a the blink clock advances by a tick, and is printed
 //   n every byte of colour n is made n, and every byte of overlay n 0xf0 + n, so that a pixel's part shows its entry
-ghost use Prim.Native.Nat.{_≤_};
-
 mod show;
 
 use hd153108::Clock;
 use hd153108::State;
 use libc::STDIN_FILENO;
-
-// The number at a place of a line.
-fn number(line: &[u8], k: usize) -> u8
-    requires { ⌜ k ≤ 9 ⌝ }
-{
-    script::byte(line, 2 + 3 * k)
-}
+use script::byte;
 
 fn given(line: &[u8]) -> State {
     let k = Clock {
-        timing: number(line, 7),
-        position: number(line, 8),
+        timing: byte(line, 23),
+        position: byte(line, 26),
     };
     State {
-        address: number(line, 0),
-        pointer: number(line, 1),
-        red: number(line, 2),
-        green: number(line, 3),
-        readmask: number(line, 4),
-        blinkmask: number(line, 5),
-        control: number(line, 6),
+        address: byte(line, 2),
+        pointer: byte(line, 5),
+        red: byte(line, 8),
+        green: byte(line, 11),
+        readmask: byte(line, 14),
+        blinkmask: byte(line, 17),
+        control: byte(line, 20),
         clock: k,
     }
 }
@@ -49,40 +41,59 @@ fn number_entries(t: &mut [u8], first: u8) {
     }
 }
 
+// A line of the blink clock; any other is the label of what follows.
+fn blink(k: Clock, line: &[u8]) -> Clock {
+    match script::command(line) {
+        b't' => show::tick(k),
+        b'a' => show::advance(k),
+        b'k' => show::clock(k),
+        _ => {
+            script::label(line, 0);
+            k
+        }
+    }
+}
+
 // A line that no table is lent for.
 fn alone(s: State, line: &[u8]) -> State {
     match script::command(line) {
         b's' => given(line),
         b'z' => show::reset(s),
-        b't' => show::step(s),
-        b'a' => show::advance(s),
-        b'k' => show::clock(s),
         b'g' => show::registers(s),
-        _ => show::label(s, line),
+        _ => {
+            let mut n = s;
+            let k = blink(s.clock, line);
+            n.clock = k;
+            n
+        }
     }
 }
 
-fn turn(s: State, line: &[u8], colours: &mut [u8], overlays: &mut [u8]) -> State {
-    let a = number(line, 0);
-    let b = number(line, 1);
+// A line that leaves the tables.
+fn look<'a>(s: State, line: &[u8], colours: &'a [u8], overlays: &'a [u8]) -> State {
     match script::command(line) {
-        b'w' => return show::write(s, a, b, colours, overlays),
-        b'x' => return show::write(s, a, b, overlays, colours),
-        b'r' => return show::read(s, a, colours, overlays),
-        b'p' => show::pixel(s, colours, overlays, a, b, number(line, 2)),
-        b'c' => show::entry(colours, line, a),
-        b'o' => show::entry(overlays, line, a),
+        b'r' => show::read(s, line, colours, overlays),
+        b'p' => show::pixel(s, line, colours, overlays),
+        b'c' => show::entry(s, line, colours),
+        b'o' => show::entry(s, line, overlays),
+        _ => alone(s, line),
+    }
+}
+
+fn turn(s: State, line: &[u8], colours: &mut [u8; 768], overlays: &mut [u8; 12]) -> State {
+    match script::command(line) {
+        b'w' => show::write(s, line, colours, overlays),
+        b'x' => show::write(s, line, overlays, colours),
         b'n' => {
             number_entries(colours, 0);
             number_entries(overlays, 240);
+            s
         }
-        _ => return alone(s, line),
+        _ => look(s, line, colours, overlays),
     }
-    s
 }
 
-fn run(text: &[u8], start: State, colours: &mut [u8], overlays: &mut [u8]) {
-    let mut s = start;
+fn run(text: &[u8], mut s: State, colours: &mut [u8; 768], overlays: &mut [u8; 12]) {
     let mut at = 0;
     while at < text.len() {
         let to = script::end(text, at);

@@ -36,16 +36,12 @@ fn lent(s: State, line: &[u8]) -> Bench {
     }
 }
 
-fn fill(queue: &mut [u64], number: u64) {
-    for i in 0..queue.len() {
-        queue[i] = number;
-    }
-}
-
 // The first places of the queue.
-fn fill_first(queue: &mut [u64], count: usize, number: u64) {
-    if count <= queue.len() {
-        fill(&mut queue[..count], number);
+fn fill(queue: &mut [u64; 64], count: usize, number: u64) {
+    for i in 0..64 {
+        if i < count {
+            queue[i] = number;
+        }
     }
 }
 
@@ -60,10 +56,14 @@ fn waiting(line: &[u8]) -> u64 {
 }
 
 // A call on what is lent.
-fn call(b: Bench, line: &[u8], queue: &mut [u64], map: &mut [u8]) -> State {
-    let s = b.state;
-    let places = b.places;
-    let bytes = b.bytes;
+fn call(
+    s: State,
+    places: usize,
+    bytes: usize,
+    line: &[u8],
+    queue: &mut [u64],
+    map: &mut [u8],
+) -> State {
     if places <= queue.len() {
         if bytes <= map.len() {
             return calls::call(s, line, &mut queue[..places], &mut map[..bytes]);
@@ -72,22 +72,23 @@ fn call(b: Bench, line: &[u8], queue: &mut [u64], map: &mut [u8]) -> State {
     s
 }
 
-fn turn(b: Bench, line: &[u8], queue: &mut [u64], map: &mut [u8]) -> Bench {
+fn turn(b: Bench, line: &[u8], queue: &mut [u64; 64], map: &mut [u8; 24577]) -> Bench {
     match script::command(line) {
         b'n' => lent(b.state, line),
         b'q' => {
-            fill_first(queue, script::byte(line, 2) as usize, waiting(line));
+            fill(queue, script::byte(line, 2) as usize, waiting(line));
             b
         }
         _ => {
-            let next = call(b, line, queue, map);
-            Bench { state: next, ..b }
+            let mut n = b;
+            let next = call(b.state, b.places, b.bytes, line, queue, map);
+            n.state = next;
+            n
         }
     }
 }
 
-fn run(text: &[u8], start: Bench, queue: &mut [u64], map: &mut [u8]) {
-    let mut b = start;
+fn run(text: &[u8], mut b: Bench, queue: &mut [u64; 64], map: &mut [u8; 24577]) {
     let mut at = 0;
     while at < text.len() {
         let to = script::end(text, at);
@@ -101,5 +102,10 @@ fn main() {
     let n = io::read_full(STDIN_FILENO, &mut text);
     let mut queue = [0u64; 64];
     let mut map = [0u8; 24577];
-    run(&text[..n], lent(calls::fresh(), b""), &mut queue, &mut map);
+    let start = Bench {
+        state: calls::fresh(),
+        places: 0,
+        bytes: 0,
+    };
+    run(&text[..n], start, &mut queue, &mut map);
 }

@@ -1,48 +1,48 @@
 // What the vectors print: the line's label from a place on, and an answer.
-use libc::STDOUT_FILENO;
 use ms622424_places::Answer;
 use ms622424_places::State;
 use vocabulary::Shown;
 
-fn text(t: &[u8]) {
-    io::write_all(STDOUT_FILENO, t);
+// Where the label of a line with an answer starts, or 0 where no line is printed.
+fn label_at(command: u8) -> usize {
+    match command {
+        b'v' | b'i' => 0,
+        b'w' => 8,
+        b'b' => 11,
+        b'z' => 2,
+        _ => 5,
+    }
 }
 
-fn number(name: &[u8], n: u64) {
-    text(name);
-    io::print_decimal(STDOUT_FILENO, n);
+fn values(refusal: u8, value: u8, count: u16) {
+    let numbers = [refusal, value];
+    script::fields(b": refusal # value %", &numbers);
+    script::number(b" count ", count as u64);
 }
 
-fn hex(name: &[u8], n: u8) {
-    text(name);
-    io::print_hex(STDOUT_FILENO, n as u64, 2);
+fn places(address: u16, counter: u8, waiting: u8) {
+    script::number(b", address ", address as u64);
+    let numbers = [counter, waiting];
+    script::fields(b" counter # waiting #\n", &numbers);
 }
 
-// A title before a group of lines.
-pub fn title(s: State, line: &[u8]) -> State {
-    script::rest(line, 0);
-    text(b"\n");
-    s
+// An answer, and the state that it left.
+pub fn answer(line: &[u8], a: Answer) -> State {
+    let at = label_at(script::command(line));
+    if 0 < at {
+        script::rest(line, at);
+        values(a.refusal, a.value, a.count);
+        places(
+            a.state.port.address,
+            a.state.port.counter,
+            a.state.fifo.waiting,
+        );
+    }
+    a.state
 }
 
-pub fn line(label: &[u8], at: usize, a: Answer) -> State {
-    script::rest(label, at);
-    number(b": refusal ", a.refusal as u64);
-    hex(b" value ", a.value);
-    number(b" count ", a.count as u64);
-    let s = a.state;
-    number(b", address ", s.port.address as u64);
-    number(b" counter ", s.port.counter as u64);
-    number(b" waiting ", s.fifo.waiting as u64);
-    text(b"\n");
-    s
-}
-
-pub fn colour_line(label: &[u8], at: usize, p: Shown) {
-    script::rest(label, at);
-    number(b": refusal ", p.refusal as u64);
-    hex(b" colour ", p.red);
-    hex(b" ", p.green);
-    hex(b" ", p.blue);
-    text(b"\n");
+pub fn colour(line: &[u8], p: Shown) {
+    script::rest(line, 14);
+    let numbers = [p.refusal, p.red, p.green, p.blue];
+    script::fields(b": refusal # colour % % %\n", &numbers);
 }

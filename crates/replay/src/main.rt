@@ -4,22 +4,25 @@
 // memory whatever comes in. The input is read to its end, in at most as many turns as a u64 counts: a turn takes what
 // was read up to a line's end, and reads on where all of it was taken.
 use board::Board;
-use board::Step;
 use feed_take::Fed;
 use libc::STDIN_FILENO;
 ghost use mathlib.Core.Path.{_≡_};
 ghost use Prim.Native.Nat.{_+_, _^_, _<_};
 ghost use lib.ListN.{length};
 
-// The board, how many bytes of a line are held, how many of the output wait; how many were read, and how many of those
-// were taken; and the turns that are left, none when the log has ended.
+// How many bytes were read, and how many of those were taken; and the turns that are left, none once the log ended.
+struct Input {
+    got: usize,
+    at: usize,
+    turns: u64,
+}
+
+// The board, how many bytes of a line are held, how many of the output wait, and the input.
 struct Stand {
     board: Board,
     len: usize,
     waiting: usize,
-    got: usize,
-    at: usize,
-    turns: u64,
+    input: Input,
 }
 
 // Nothing read yet.
@@ -28,9 +31,11 @@ fn begun(board: Board) -> Stand {
         board: board,
         len: 0,
         waiting: 0,
-        got: 0,
-        at: 0,
-        turns: u64::MAX,
+        input: Input {
+            got: 0,
+            at: 0,
+            turns: u64::MAX,
+        },
     }
 }
 
@@ -44,34 +49,36 @@ fn ended(len: usize, chunk: &mut [u8]) -> usize {
 }
 
 // Reads once; nothing, or a failure, ends the log.
-fn read(s: Stand, chunk: &mut [u8]) -> Stand
-    requires { ⌜ 0 < s .turns ⌝ }
-    ensures { λ r. ⌜ r .turns < s .turns ⌝ }
+fn read(i: Input, len: usize, chunk: &mut [u8]) -> Input
+    requires { ⌜ 0 < i .turns ⌝ }
+    ensures { λ r. ⌜ r .turns < i .turns ⌝ }
 {
     let got = io::count(libc::read(STDIN_FILENO, chunk), chunk);
-    let mut n = s;
-    n.at = 0;
     if got > 0 {
-        n.got = got;
-        n.turns = s.turns - 1;
-        return n;
+        return Input {
+            got: got,
+            at: 0,
+            turns: i.turns - 1,
+        };
     }
-    n.got = ended(s.len, chunk);
-    n.turns = 0;
-    n
+    Input {
+        got: ended(len, chunk),
+        at: 0,
+        turns: 0,
+    }
 }
 
 // A turn less, with something read that is not yet taken, unless the log has ended.
-fn next(s: Stand, chunk: &mut [u8]) -> Stand
-    requires { ⌜ 0 < s .turns ⌝ }
-    ensures { λ r. ⌜ r .turns < s .turns ⌝ }
+fn next(i: Input, len: usize, chunk: &mut [u8]) -> Input
+    requires { ⌜ 0 < i .turns ⌝ }
+    ensures { λ r. ⌜ r .turns < i .turns ⌝ }
 {
-    if s.at < s.got {
-        let mut n = s;
-        n.turns = s.turns - 1;
+    if i.at < i.got {
+        let mut n = i;
+        n.turns = i.turns - 1;
         return n;
     }
-    read(s, chunk)
+    read(i, len, chunk)
 }
 
 // What was read and not yet taken.
@@ -84,49 +91,80 @@ fn rest(chunk: &[u8], at: usize, got: usize) -> &[u8]
     &chunk[..0]
 }
 
-// A step's answer behind what waits: its text, and behind it the page's first bytes.
-fn say(step: Step, page: &[u8], out: &mut [u8], waiting: usize) -> usize {
-    let text = step.text;
-    let bytes = text.bytes;
-    let at = printer::say_first(&bytes, text.len, out, waiting);
-    printer::say_first(page, step.listed, out, at)
+// The answer behind what waits: its text, and behind it the page's first bytes.
+fn say(f: Fed, page: &[u8], out: &mut [u8], waiting: usize) -> usize {
+    let bytes = f.step.text.bytes;
+    let at = printer::say_first(&bytes, f.step.text.len, out, waiting);
+    printer::say_first(page, f.step.listed, out, at)
 }
 
 // What was taken.
-fn taken(s: Stand, f: Fed, waiting: usize) -> Stand
-    requires { ⌜ s .at + f .taken < 2 ^ 64 ⌝ }
-    ensures { λ r. ⌜ r .turns ≡ s .turns ⌝ }
+fn taken(i: Input, f: Fed, waiting: usize) -> Stand
+    requires { ⌜ i .at + f .taken < 2 ^ 64 ⌝ }
+    ensures { λ r. ⌜ r .input .turns ≡ i .turns ⌝ }
 {
-    let step = f.step;
-    let after = step.board;
-    let mut n = s;
-    n.board = after;
-    n.len = f.len;
-    n.at = s.at + f.taken;
-    n.waiting = waiting;
-    n
+    let after = f.step.board;
+    let mut n = i;
+    n.at = i.at + f.taken;
+    Stand {
+        board: after,
+        len: f.len,
+        waiting: waiting,
+        input: n,
+    }
+}
+
+// A text that was read, put to the board, and its answer behind what waits.
+fn turn(
+    s: Stand,
+    i: Input,
+    text: &[u8],
+    hold: &mut [u8; 16],
+    colours: &mut [u8; 768],
+    overlays: &mut [u8; 12],
+    queue: &mut [u64; 64],
+    map: &mut [u8; 24576],
+    table: &mut [u16; 3072],
+    page: &mut [u8; 2134],
+    out: &mut [u8; 65536],
+) -> Stand
+    requires { ⌜ i .at + length (now text) < 2 ^ 64 ⌝ }
+    ensures { λ r. ⌜ r .input .turns ≡ i .turns ⌝ }
+{
+    let f = feed_take::take(
+        s.board,
+        s.len,
+        text,
+        hold,
+        colours,
+        overlays,
+        queue,
+        map,
+        table,
+        page,
+    );
+    taken(i, f, say(f, page, out, s.waiting))
 }
 
 // The whole log.
 fn replay(
-    start: Stand,
-    chunk: &mut [u8],
-    hold: &mut [u8],
-    colours: &mut [u8],
-    overlays: &mut [u8],
-    queue: &mut [u64],
-    map: &mut [u8],
-    table: &mut [u16],
-    page: &mut [u8],
-    out: &mut [u8],
+    mut s: Stand,
+    chunk: &mut [u8; 65536],
+    hold: &mut [u8; 16],
+    colours: &mut [u8; 768],
+    overlays: &mut [u8; 12],
+    queue: &mut [u64; 64],
+    map: &mut [u8; 24576],
+    table: &mut [u16; 3072],
+    page: &mut [u8; 2134],
+    out: &mut [u8; 65536],
 ) {
-    let mut s = start;
-    while s.turns > 0 {
-        s = next(s, chunk);
-        let f = feed_take::take(
-            s.board,
-            s.len,
-            rest(chunk, s.at, s.got),
+    while s.input.turns > 0 {
+        let i = next(s.input, s.len, chunk);
+        s = turn(
+            s,
+            i,
+            rest(chunk, i.at, i.got),
             hold,
             colours,
             overlays,
@@ -134,9 +172,8 @@ fn replay(
             map,
             table,
             page,
+            out,
         );
-        let step = f.step;
-        s = taken(s, f, say(step, page, out, s.waiting));
     }
     printer::flush(out, s.waiting);
 }

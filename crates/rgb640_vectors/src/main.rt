@@ -16,12 +16,13 @@ mod print;
 
 use libc::STDIN_FILENO;
 use print::answer;
+use rgb640::Answer;
 use rgb640::Colour;
 use rgb640::State;
 
-fn fill(t: &mut [u16]) {
-    for i in 0..t.len() {
-        t[i] = (i % 3072 * 4 + 1) as u16;
+fn fill(t: &mut [u16; 3072]) {
+    for i in 0..3072 {
+        t[i] = (i * 4 + 1) as u16;
     }
 }
 
@@ -45,43 +46,40 @@ fn given(line: &[u8]) -> State {
 fn show(s: State, command: u8) {
     match command {
         b'i' => print::place(s.index, s.place),
-        b'f' => print::fetched(s),
+        b'f' => print::three(s.fetched.red, s.fetched.green, s.fetched.blue),
         b'l' => print::latches(s.red, s.green, s.update),
         _ => {}
     }
 }
 
 // A line that asks nothing of the table.
-fn alone(s: State, line: &[u8], command: u8) -> State {
+fn alone(s: State, line: &[u8]) -> State {
+    let command = script::command(line);
     match command {
-        b's' => given(line),
-        b'z' => answer(rgb640_reset::zk_c_reset(s)),
-        b'.' => {
-            script::line_end();
-            s
-        }
+        b'n' => {}
+        b's' => return given(line),
+        b'z' => return answer(rgb640_reset::zk_c_reset(s)),
+        b'.' => script::line_end(),
         _ => {
             script::label(line, 2);
             show(s, command);
-            s
         }
     }
+    s
 }
 
-fn access(s: State, line: &[u8], table: &mut [u16]) -> State {
-    let command = script::command(line);
+fn access(s: State, line: &[u8], table: &mut [u16]) -> Answer {
     let port = script::byte(line, 2);
-    match command {
-        b'w' => answer(rgb640_write::zk_c_write(s, port, script::byte(line, 5), table)),
-        b'r' => answer(rgb640_read::zk_c_read(s, port, table)),
-        _ => alone(s, line, command),
+    if script::command(line) == b'w' {
+        return rgb640_write::zk_c_write(s, port, script::byte(line, 5), table);
     }
+    rgb640_read::zk_c_read(s, port, table)
 }
 
 // An access of what is lent: so many numbers of the table.
 fn lent(s: State, size: usize, line: &[u8], table: &mut [u16]) -> State {
     if size <= table.len() {
-        return access(s, line, &mut table[..size]);
+        return answer(access(s, line, &mut table[..size]));
     }
     s
 }
@@ -94,23 +92,17 @@ fn lent_size(size: usize, line: &[u8]) -> usize {
     size
 }
 
-fn turn(s: State, size: usize, line: &[u8], table: &mut [u16]) -> State {
+fn turn(s: State, size: usize, line: &[u8], table: &mut [u16; 3072]) -> State {
     match script::command(line) {
-        b'n' => s,
-        b't' => {
-            fill(table);
-            s
-        }
-        b'e' => {
-            print::entry(line, table, script::word(line, 2) as usize);
-            s
-        }
-        _ => lent(s, size, line, table),
+        b't' => fill(table),
+        b'e' => print::entry(line, table),
+        b'w' | b'r' => return lent(s, size, line, table),
+        _ => return alone(s, line),
     }
+    s
 }
 
-fn run(text: &[u8], start: State, table: &mut [u16]) {
-    let mut s = start;
+fn run(text: &[u8], mut s: State, table: &mut [u16; 3072]) {
     let mut size: usize = 3072;
     let mut at = 0;
     while at < text.len() {

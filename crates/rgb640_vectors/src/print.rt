@@ -6,7 +6,8 @@ fn decimal(n: u16) {
     script::number(b" ", n as u64);
 }
 
-fn three(a: u16, b: u16, c: u16) {
+// A colour.
+pub fn three(a: u16, b: u16, c: u16) {
     decimal(a);
     decimal(b);
     decimal(c);
@@ -15,10 +16,9 @@ fn three(a: u16, b: u16, c: u16) {
 
 // A call's answer, and the state that it left.
 pub fn answer(a: Answer) -> State {
-    decimal(a.refusal as u16);
-    script::hex(b"/", a.value as u64, 2);
-    let s = a.state;
-    s
+    let numbers = [a.refusal, a.value];
+    script::fields(b" #/%", &numbers);
+    a.state
 }
 
 // The index and the place.
@@ -36,19 +36,12 @@ pub fn latches(red: u16, green: u16, update: u8) {
     script::line_end();
 }
 
-// The fetched entry.
-pub fn fetched(s: State) {
-    let f = s.fetched;
-    three(f.red, f.green, f.blue);
-}
-
 // An entry of the table, as it stands.
-pub fn entry(line: &[u8], t: &[u16], e: usize) {
+pub fn entry(line: &[u8], t: &[u16; 3072]) {
     script::label(line, 7);
+    let e = script::word(line, 2) as usize;
     if e < 1024 {
         let at = 3 * e;
-        if at + 2 < t.len() {
-            three(t[at], t[at + 1], t[at + 2]);
-        }
+        three(t[at], t[at + 1], t[at + 2]);
     }
 }

@@ -76,6 +76,37 @@ pub fn hex(name: &[u8], n: u64, width: usize) {
     io::print_hex(STDOUT_FILENO, n, width);
 }
 
+// Prints a byte of a text, or the number in its place: how many numbers that is. '%' stands for two hex digits, and
+// '#' for a decimal number.
+fn field(c: u8, number: u8) -> usize
+    ensures { λ r. ⌜ r ≤ 1 ⌝ }
+{
+    let n = number as u64;
+    match c {
+        b'%' => {
+            io::print_hex(STDOUT_FILENO, n, 2);
+            1
+        }
+        b'#' => {
+            io::print_decimal(STDOUT_FILENO, n);
+            1
+        }
+        _ => {
+            let d = [c];
+            io::write_all(STDOUT_FILENO, &d);
+            0
+        }
+    }
+}
+
+// Prints a text with one of the numbers in each place for one.
+pub fn fields(names: &[u8], numbers: &[u8]) {
+    let mut k = 0;
+    for i in 0..names.len() {
+        k += field(names[i], at_place(numbers, k));
+    }
+}
+
 // The end of a line.
 pub fn line_end() {
     io::write_all(STDOUT_FILENO, b"\n");
@@ -87,7 +118,7 @@ pub fn label(line: &[u8], at: usize) {
     line_end();
 }
 
-// Prints a line from a place on.
+// Prints a line, or another text, from a place on.
 pub fn rest(line: &[u8], at: usize) {
     if at <= line.len() {
         io::write_all(STDOUT_FILENO, &line[at..]);

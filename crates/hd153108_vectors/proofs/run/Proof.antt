@@ -1,20 +1,18 @@
 use borrow.Author.Needs.{needs}
 use Prim.Native.Nat.{_-_}
-use mathlib.Core.Path.{_≡_}
 use lib.ListN.{length}
 use Rattle.hd153108_vectors.proofs.run.Statement.{statement}
 use Rattle.hd153108_vectors.proofs.run.Tie as tie
 
 abbrev Inv-loop : tie.InvT-loop
-Inv-loop text colours₀ overlays₀ s₀ at₀ colours overlays s at =
-    (length colours ≡ length colours₀) × (length overlays ≡ length overlays₀)
+Inv-loop text s₀ colours₀ overlays₀ at₀ s colours overlays at = Unit {0}
 
 abbrev μ-loop : tie.MeasureT-loop
-μ-loop text colours₀ overlays₀ s₀ at₀ colours overlays s at = length text - at
+μ-loop text s₀ colours₀ overlays₀ at₀ s colours overlays at = length text - at
 
 pub run-spec : {M : Type 1} → statement M
 run-spec =
     tie.close
     (tie.spec Inv-loop μ-loop (λ c. search needs) (λ c κs. search needs) (λ c. search needs) (λ c. search needs)
     (λ c. search needs) (λ c κs. search needs) (λ c. search needs) (λ c. search needs) (λ c. search needs)
-    (λ c. search needs) (λ c. search needs) (λ c. search needs))
+    (λ c. search needs))

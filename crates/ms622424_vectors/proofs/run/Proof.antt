@@ -1,19 +1,18 @@
 use borrow.Author.Needs.{needs}
 use Prim.Native.Nat.{_-_}
-use mathlib.Core.Path.{_≡_}
 use lib.ListN.{length}
 use Rattle.ms622424_vectors.proofs.run.Statement.{statement}
 use Rattle.ms622424_vectors.proofs.run.Tie as tie
 
 abbrev Inv-loop : tie.InvT-loop
-Inv-loop text queue₀ map₀ b₀ at₀ queue map b at = (length queue ≡ length queue₀) × (length map ≡ length map₀)
+Inv-loop text b₀ queue₀ map₀ at₀ b queue map at = Unit {0}
 
 abbrev μ-loop : tie.MeasureT-loop
-μ-loop text queue₀ map₀ b₀ at₀ queue map b at = length text - at
+μ-loop text b₀ queue₀ map₀ at₀ b queue map at = length text - at
 
 pub run-spec : {M : Type 1} → statement M
 run-spec =
     tie.close
     (tie.spec Inv-loop μ-loop (λ c. search needs) (λ c κs. search needs) (λ c. search needs) (λ c. search needs)
     (λ c. search needs) (λ c κs. search needs) (λ c. search needs) (λ c. search needs) (λ c. search needs)
-    (λ c. search needs) (λ c. search needs) (λ c. search needs))
+    (λ c. search needs))

@@ -10,5 +10,5 @@ slice-aggregate-access c = simp length-take (omega arith)
 pub lent-spec : {M : Type 1} → statement M
 lent-spec =
     tie.close
-    (tie.spec (λ c. search needs) slice-aggregate-access (λ c κs. search needs) (λ c. search needs)
-    (λ c. search needs) (λ c. search needs))
+    (tie.spec (λ c. search needs) slice-aggregate-access (λ c κs. search needs) (λ c κs. search needs)
+    (λ c. search needs) (λ c. search needs) (λ c. search needs))

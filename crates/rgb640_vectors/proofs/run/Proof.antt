@@ -1,19 +1,18 @@
 use borrow.Author.Needs.{needs}
 use Prim.Native.Nat.{_-_}
-use mathlib.Core.Path.{_≡_}
 use lib.ListN.{length}
 use Rattle.rgb640_vectors.proofs.run.Statement.{statement}
 use Rattle.rgb640_vectors.proofs.run.Tie as tie
 
 abbrev Inv-loop : tie.InvT-loop
-Inv-loop text table₀ s₀ size₀ at₀ table s size at = length table ≡ length table₀
+Inv-loop text s₀ table₀ size₀ at₀ s table size at = Unit {0}
 
 abbrev μ-loop : tie.MeasureT-loop
-μ-loop text table₀ s₀ size₀ at₀ table s size at = length text - at
+μ-loop text s₀ table₀ size₀ at₀ s table size at = length text - at
 
 pub run-spec : {M : Type 1} → statement M
 run-spec =
     tie.close
     (tie.spec Inv-loop μ-loop (λ c. search needs) (λ c κs. search needs) (λ c. search needs) (λ c. search needs)
     (λ c. search needs) (λ c κs. search needs) (λ c κs. search needs) (λ c. search needs) (λ c. search needs)
-    (λ c. search needs) (λ c. search needs) (λ c. search needs))
+    (λ c. search needs) (λ c. search needs))

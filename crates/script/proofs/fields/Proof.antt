@@ -2,8 +2,8 @@ use borrow.Author.Needs.{needs}
 use Prim.Native.Nat.{_-_, _≤_}
 use mathlib.Core.Path.{_≡_}
 use lib.ListN.{length}
-use Rattle.hd153108_vectors.proofs.show.fields.Statement.{statement}
-use Rattle.hd153108_vectors.proofs.show.fields.Tie as tie
+use Rattle.script.proofs.fields.Statement.{statement}
+use Rattle.script.proofs.fields.Tie as tie
 
 abbrev Inv-loop : tie.InvT-loop
 Inv-loop names numbers k₀ i₀ i-end k i = (k ≤ i) × (i ≤ i-end) × (i-end ≡ length names)
