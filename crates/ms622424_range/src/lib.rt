@@ -1,4 +1,8 @@
-// Ranges: what refusals 1 and 9 ask of a state and of the lent tables. They are the same whatever bytes the map has.
+// The MS622424: the ranges that every call tries first, which refusals 1 and 9 ask of a state and of the lent tables.
+// They are the same whatever bytes the map has.
+//
+// Document 01, "Chip B", decides; ms622424's specs/Ms622424.antt says it. How the queue is kept is not known here:
+// ms622424_queue_range tests its places. Not modelled: as there.
 use ms622424_places::State;
 ghost use mathlib.Core.Path.{_≡_};
 ghost use mathlib.Core.List.{[], _∷_};

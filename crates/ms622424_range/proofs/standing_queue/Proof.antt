@@ -1,10 +1,10 @@
 use mathlib.Core.Path.{sym, _∙_}
 use borrow.Author.Tests.{not-true, not-false}
 use Rattle.vocabulary.proofs.Range.{not-fails, holds-passes, misses-fails, meets-passes}
-use Rattle.ms622424_port.proofs.Standing.{stands-short, stands-outside, stands}
+use Rattle.ms622424_range.proofs.Standing.{stands-short, stands-outside, stands}
 use borrow.Author.Needs.{needs}
-use Rattle.ms622424_port.proofs.range.standing_queue.Statement.{statement}
-use Rattle.ms622424_port.proofs.range.standing_queue.Tie as tie
+use Rattle.ms622424_range.proofs.standing_queue.Statement.{statement}
+use Rattle.ms622424_range.proofs.standing_queue.Tie as tie
 
 returns-2 : tie.Need-returns-2
 returns-2 c =

@@ -1,9 +1,9 @@
 use mathlib.Core.Path.{_≡_, refl}
 use native.Mathlib.Omega.{arith}
-use Rattle.ms622424_pixel.proofs.Outputs.{entry-index, entry-based}
+use Rattle.ms622424_entry.proofs.Outputs.{entry-index, entry-based}
 use borrow.Author.Needs.{needs}
-use Rattle.ms622424_pixel.proofs.entry.Statement.{statement}
-use Rattle.ms622424_pixel.proofs.entry.Tie as tie
+use Rattle.ms622424_entry.proofs.entry.Statement.{statement}
+use Rattle.ms622424_entry.proofs.entry.Tie as tie
 
 returns-4 : tie.Need-returns-4
 returns-4 c =

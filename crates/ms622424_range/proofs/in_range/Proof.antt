@@ -3,10 +3,10 @@ use mathlib.Core.List.{[]}
 use native.Mathlib.Omega.{arith}
 use Rattle.vocabulary.proofs.Range.{not-meets}
 use Rattle.ms622424_places.specs.Places.{handed, view}
-use Rattle.ms622424_port.proofs.Standing.{queue-decides}
+use Rattle.ms622424_range.proofs.Standing.{queue-decides}
 use borrow.Author.Needs.{needs}
-use Rattle.ms622424_port.proofs.range.in_range.Statement.{statement}
-use Rattle.ms622424_port.proofs.range.in_range.Tie as tie
+use Rattle.ms622424_range.proofs.in_range.Statement.{statement}
+use Rattle.ms622424_range.proofs.in_range.Tie as tie
 
 returns-7 : tie.Need-returns-7
 returns-7 c =

@@ -1,10 +1,10 @@
 use borrow.Author.Tests.{eq-eqb}
 use Rattle.vocabulary.specs.Range.{meets, fails}
 use Rattle.vocabulary.proofs.Range.{not-fails}
-use Rattle.ms622424_port.proofs.Standing.{stands-short}
+use Rattle.ms622424_range.proofs.Standing.{stands-short}
 use borrow.Author.Needs.{needs}
-use Rattle.ms622424_port.proofs.range.standing_tables.Statement.{statement}
-use Rattle.ms622424_port.proofs.range.standing_tables.Tie as tie
+use Rattle.ms622424_range.proofs.standing_tables.Statement.{statement}
+use Rattle.ms622424_range.proofs.standing_tables.Tie as tie
 
 returns-2 : tie.Need-returns-2
 unfolding fails meets
