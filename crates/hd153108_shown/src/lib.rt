@@ -34,7 +34,7 @@ fn shows_colour(enable: u8, b6: u8, number: u8) -> bool
 pub fn picked(s: State, colours: &[u8], overlays: &[u8], enable: u8, number: u8, byte: u8) -> Pick
     ensures { λ r. ⌜ Picked enable number byte (chip s (now (colours .entry)) (now (overlays .entry))) r ⌝ }
 {
-    let refusal = hd153108_port::standing(s, colours.len(), overlays.len());
+    let refusal = hd153108_range::standing(s, colours.len(), overlays.len());
     if refusal != 0 {
         return Pick::Refused(refusal);
     }
@@ -45,7 +45,7 @@ pub fn picked(s: State, colours: &[u8], overlays: &[u8], enable: u8, number: u8,
         return Pick::Refused(9);
     }
     let control = s.control;
-    let off = hd153108_port::blink_off(s.clock);
+    let off = hd153108_range::blink_off(s.clock);
     if shows_colour(enable, control / 64 % 2, number) {
         return Pick::Colour(masked_byte(off, s.readmask, s.blinkmask, byte) as usize);
     }

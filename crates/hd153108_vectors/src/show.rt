@@ -87,7 +87,7 @@ pub fn clock(s: State) -> State {
     let k = s.clock;
     let numbers = [k.timing, k.position];
     fields(b"timing= position=", &numbers);
-    if hd153108_port::blink_off(k) {
+    if hd153108_range::blink_off(k) {
         text(b" off\n");
     } else {
         text(b" on\n");

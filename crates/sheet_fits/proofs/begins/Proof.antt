@@ -2,10 +2,10 @@ use Prim.Native.Nat.{_≤_, _-_}
 use mathlib.Core.Path.{_≡_}
 use lib.ListN.{length, drop}
 use Rattle.sheet.specs.Sheet.{starts}
-use Rattle.sheet_line.proofs.Starts.{starts-short, starts-all, starts-on, starts-differ}
+use Rattle.sheet_fits.proofs.Starts.{starts-short, starts-all, starts-on, starts-differ}
 use borrow.Author.Needs.{needs}
-use Rattle.sheet_line.proofs.begins.Statement.{statement}
-use Rattle.sheet_line.proofs.begins.Tie as tie
+use Rattle.sheet_fits.proofs.begins.Statement.{statement}
+use Rattle.sheet_fits.proofs.begins.Tie as tie
 
 abbrev Inv-loop : tie.InvT-loop
 Inv-loop text word i₀ i =

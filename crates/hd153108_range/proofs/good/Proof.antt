@@ -4,8 +4,8 @@ use borrow.Author.Tests.{ltb-true, lt-ltb}
 use Rattle.vocabulary.proofs.Range.{not-meets, agree, meets-holds, holds-meets}
 use Rattle.hd153108.specs.Hd153108.{stateRanges}
 use borrow.Author.Needs.{needs}
-use Rattle.hd153108_port.proofs.good.Statement.{statement}
-use Rattle.hd153108_port.proofs.good.Tie as tie
+use Rattle.hd153108_range.proofs.good.Statement.{statement}
+use Rattle.hd153108_range.proofs.good.Tie as tie
 
 returns-5 : tie.Need-returns-5
 returns-5 c =

@@ -3,8 +3,8 @@ use borrow.Author.Tests.{not-true, not-false}
 use Rattle.vocabulary.proofs.Range.{not-fails, holds-passes, meets-passes, misses-fails}
 use Rattle.hd153108.proofs.Access.{stands-short, stands-outside, stands}
 use borrow.Author.Needs.{needs}
-use Rattle.hd153108_port.proofs.standing.Statement.{statement}
-use Rattle.hd153108_port.proofs.standing.Tie as tie
+use Rattle.hd153108_range.proofs.standing.Statement.{statement}
+use Rattle.hd153108_range.proofs.standing.Tie as tie
 
 pub standing-spec : {M : Type 1} → statement M
 standing-spec =

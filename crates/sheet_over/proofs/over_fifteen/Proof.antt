@@ -2,10 +2,10 @@ use Prim.Native.Nat.{_-_, _≤_}
 use mathlib.Core.Path.{_≡_}
 use lib.ListN.{length, drop}
 use Rattle.sheet.specs.Sheet.{overFifteenIn}
-use Rattle.sheet_values.proofs.Over.{none-over, over-here, over-on}
+use Rattle.sheet_over.proofs.Over.{none-over, over-here, over-on}
 use borrow.Author.Needs.{needs}
-use Rattle.sheet_values.proofs.over_fifteen.Statement.{statement}
-use Rattle.sheet_values.proofs.over_fifteen.Tie as tie
+use Rattle.sheet_over.proofs.over_fifteen.Statement.{statement}
+use Rattle.sheet_over.proofs.over_fifteen.Tie as tie
 
 abbrev Inv-loop : tie.InvT-loop
 Inv-loop table i₀ i = (i ≤ length table) × (overFifteenIn (drop i table) ≡ overFifteenIn table)

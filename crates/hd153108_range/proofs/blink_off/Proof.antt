@@ -1,7 +1,7 @@
 use Rattle.hd153108.specs.Hd153108.{isOff}
 use borrow.Author.Needs.{needs}
-use Rattle.hd153108_port.proofs.blink_off.Statement.{statement}
-use Rattle.hd153108_port.proofs.blink_off.Tie as tie
+use Rattle.hd153108_range.proofs.blink_off.Statement.{statement}
+use Rattle.hd153108_range.proofs.blink_off.Tie as tie
 
 pub blink-off-spec : {M : Type 1} → statement M
 unfolding isOff
