@@ -3,10 +3,10 @@ use mathlib.Core.Path.{_≡_}
 use native.Mathlib.Omega.{arith}
 use lib.Dec.{ltb}
 use lib.ListN.{take, drop}
-use Rattle.ms622424_queue_range.proofs.Bits.{all-below, gather-none, gather-next}
+use Rattle.ms622424_gather.proofs.Below.{all-below, gather-none, gather-next}
 use borrow.Author.Needs.{needs}
-use Rattle.ms622424_queue_range.proofs.gathered.Statement.{statement}
-use Rattle.ms622424_queue_range.proofs.gathered.Tie as tie
+use Rattle.ms622424_gather.proofs.gathered.Statement.{statement}
+use Rattle.ms622424_gather.proofs.gathered.Tie as tie
 
 abbrev Inv-loop : tie.InvT-loop
 Inv-loop queue from to bits₀ i₀ bits i =
