@@ -138,7 +138,14 @@ pub fn pixel<'a>(
     number: u8,
     byte: u8,
 ) {
-    let refusal = hd153108_pixel::zk_a_pixel_refusal(s, colours, overlays, enable, number, byte);
+    let refusal = hd153108_pixel_refusal::zk_a_pixel_refusal(
+        s,
+        colours,
+        overlays,
+        enable,
+        number,
+        byte,
+    );
     let numbers = [enable, number, byte, refusal];
     fields(b"pixel enable= number= byte= refused=, shows", &numbers);
     bytes(hd153108_pixel::pixel(s, colours, overlays, enable, number, byte));

@@ -1,7 +1,7 @@
 use Rattle.hd153108_shown.proofs.Rule.{refusal-as}
 use borrow.Author.Needs.{needs}
-use Rattle.hd153108_pixel.proofs.zk_a_pixel_refusal.Statement.{statement}
-use Rattle.hd153108_pixel.proofs.zk_a_pixel_refusal.Tie as tie
+use Rattle.hd153108_pixel_refusal.proofs.zk_a_pixel_refusal.Statement.{statement}
+use Rattle.hd153108_pixel_refusal.proofs.zk_a_pixel_refusal.Tie as tie
 
 pub zk-a-pixel-refusal-spec : {M : Type 1} → statement M
 zk-a-pixel-refusal-spec =
