@@ -22,8 +22,8 @@ returns-5 : tie.Need-returns-5
 returns-5 c =
     let d = c .before .before .before in
     let g = d .before .before in
-    front-decides (places g) (waits g) _ _ (long g) (g .before .gathered .ensures) (g .gathered2 .ensures) (d .if2 .left)
-    (c .before .before .if3 .left) (c .before .if4 .left) _ (c .gathered4 .ensures)
+    front-decides (places g) (waits g) _ _ (long g) (g .before .gathered .ensures) (g .gathered2 .ensures)
+    (d .if2 .left) (c .before .before .if3 .left) (c .before .if4 .left) _ (c .gathered4 .ensures)
 
 pub places-in-range-spec : {M : Type 1} → statement M
 places-in-range-spec =
@@ -39,11 +39,11 @@ places-in-range-spec =
     (λ c.
     let d = c .before .before in
     let g = d .before .before in
-    back-decides (places g) (waits g) _ _ (long g) (g .before .gathered .ensures) (g .gathered2 .ensures) (d .if2 .left) _
-    (c .gathered3 .ensures))
+    back-decides (places g) (waits g) _ _ (long g) (g .before .gathered .ensures) (g .gathered2 .ensures)
+    (d .if2 .left) _ (c .gathered3 .ensures))
     (λ c.
     let d = c .before .before in
     let g = d .before .before in
-    back-used (places g) (waits g) _ _ (long g) (g .before .gathered .ensures) (g .gathered2 .ensures) (d .if2 .left)
-    (c .before .if3 .left) (c .if4 .taken))
+    back-used (places g) (waits g) _ _ (long g) (g .before .gathered .ensures) (g .gathered2 .ensures)
+    (d .if2 .left) (c .before .if3 .left) (c .if4 .taken))
     (λ c κs. search needs) returns-5)

@@ -27,5 +27,6 @@ zk-c-write-spec =
     (c .before .before .if1 .left) (c .before .match .keys1) (c .accepted .ensures))
     (λ c. search needs) returns-3 (λ c. search needs)
     (λ c.
-    data-written _ _ _ _ _ _ (c .before .before .before .before .match .keys3) (c .before .before .data-write .ensures))
+    let d = c .before .before in
+    data-written _ _ _ _ _ _ (d .before .before .match .keys3) (d .data-write .ensures))
     (λ c. search (no-port, needs)))
