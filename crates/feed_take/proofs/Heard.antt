@@ -7,7 +7,7 @@ use mathlib.Core.List.{List, []}
 use lib.ListN.{length, take}
 use borrow.Author.Tests.{ltb-true, ltb-false}
 use Rattle.vocabulary.specs.Choice.{pick}
-use Rattle.ms622424_places.specs.Places.{Handed, handed, Same}
+use Rattle.ms622424_places.specs.Places.{handed, Same}
 use Rattle.ms622424_places.proofs.Determined.{same-self}
 use Rattle.answers.specs.Answers.{Says}
 use Rattle.turns.specs.Turns.{turn, Took}
@@ -19,45 +19,35 @@ use Rattle.hold.specs.declared.Heard.{Heard}
 use Rattle.hold.specs.Hold.{Hold, hold, before, upTo, heldOf, Hears}
 use Rattle.feed.specs.Feed.{desk, fed}
 use Rattle.feed.proofs.Bytes.{fed-line, fed-part}
-use Rattle.feed_take.specs.declared.Fed.{Fed}
-use Rattle.feed_take.specs.Fed.{FedTook}
 
-module _ (r : Fed) {s : Step} {k : Heard} (t bytes : List ℕ) (h : Hold) (cs os queue map table page : List ℕ)
-    (n : Hears k t h bytes) (e : r .step ≡ s) (l : r .len ≡ k .len) where
-  pub fed-taken : r .taken ≡ k .taken → r .taken ≡ upTo t
-  fed-taken g = g ∙ n .taken
-
+module _ {s : Step} {k : Heard} (t bytes : List ℕ) (h : Hold) (cs os queue map table page : List ℕ)
+    (n : Hears k t h bytes) where
   pub took-line : (w : Whole) → k .ends ≡ true → StepTook s cs os queue map table page (boardTurn (k .line) w)
-      → FedTook r bytes cs os queue map table page (fed (take (upTo t) t) (desk w h))
+      → Took (Answers s page) (desk (whole (s .board) cs os queue map table page) (hold bytes (k .len)))
+      (fed (take (upTo t) t) (desk w h))
   unfolding pick
   took-line w g u =
       let b = rw (n .says) at u in
       let g' = ltb-true (before t) (length t) (sym (n .ends) ∙ g) in
       let z : hold bytes (k .len) ≡ hold (heldOf t h .bytes) 0 = rw g at (n .holds) in
-      rw (fed-line t w h g', e, l) (record {
+      rw (fed-line t w h g') (record {
         says = b .says;
         leaves = ap (λ (x : Whole). desk x (hold bytes (k .len))) (b .leaves) ∙ ap (desk _) z;
       })
 
   pub took-part : (b : Board) → k .ends ≡ false → s .board ≡ b → Says (s .text) [] → s .listed ≡ 0
-      → FedTook r bytes cs os queue map table page
+      → Took (Answers s page) (desk (whole (s .board) cs os queue map table page) (hold bytes (k .len)))
       (fed (take (upTo t) t) (desk (whole b cs os queue map table page) h))
   unfolding pick
   took-part b g is u z =
       let g' = ltb-false (before t) (length t) (sym (n .ends) ∙ g) in
       let m : hold bytes (k .len) ≡ heldOf t h = rw g at (n .holds) in
       let q : s ≡ step b (s .text) 0 = rw (sym is, sym z) in
-      rw (fed-part t _ h g', e, l, q) (record {
+      rw (fed-part t _ h g', q) (record {
         says = says-text b (s .text) page u;
         leaves = ap (desk (whole b cs os queue map table page)) m;
       })
 
 -- chip B's bytes
-module _ (r : Fed) {s : Step} (e : r .step ≡ s) where
-  pub same-line : {given : Handed} {queue map : List ℕ} → Same given (handed (s .board .b) queue map)
-      → Same given (handed (r .step .board .b) queue map)
-  same-line h = rw e h
-
-  pub same-part : (b : Board) (queue map : List ℕ) → s .board ≡ b
-      → Same (handed (b .b) queue map) (handed (r .step .board .b) queue map)
-  same-part b queue map f = rw (e, f) (same-self _)
+pub same-part : {a b : Board} (queue map : List ℕ) → a ≡ b → Same (handed (b .b) queue map) (handed (a .b) queue map)
+same-part queue map f = rw f (same-self _)

@@ -4,7 +4,6 @@
 // and page. All of them are lent but the board's states. Not modelled: as there.
 use board::Board;
 use board::Step;
-use hold::Heard;
 ghost use mathlib.Core.Path.{_≡_};
 ghost use mathlib.Core.List.{[]};
 ghost use lib.ListN.{take as firstOf};
@@ -20,17 +19,6 @@ pub struct Fed {
     pub step: Step,
     pub len: usize,
     pub taken: usize,
-}
-
-// A step and what was heard.
-fn after(step: Step, h: Heard) -> Fed
-    ensures { λ r. ⌜ (r .step ≡ step) × (r .len ≡ h .len) × (r .taken ≡ h .taken) ⌝ }
-{
-    Fed {
-        step: step,
-        len: h.len,
-        taken: h.taken,
-    }
 }
 
 // No answer: the board as it is.
@@ -69,10 +57,15 @@ pub fn take(
     let h = hold_hear::hear(text, hold, len);
     if h.ends {
         let line = h.line;
-        return after(
-            board_answer::answer(board, line, colours, overlays, queue, map, table, page),
-            h,
-        );
+        return Fed {
+            step: board_answer::answer(board, line, colours, overlays, queue, map, table, page),
+            len: h.len,
+            taken: h.taken,
+        };
     }
-    after(silent(board), h)
+    Fed {
+        step: silent(board),
+        len: h.len,
+        taken: h.taken,
+    }
 }

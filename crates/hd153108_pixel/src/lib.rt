@@ -1,14 +1,14 @@
 // The HD153108's pixel (chip A): the colour that hd153108_shown picks, handed back.
 //
-// Source document 003, Table 4, with document 01's rulings, decides; the rule is `called` of `pixels` in hd153108's
-// specs/Hd153108.antt, and for the part `pixelPart` (`pixel-lent` says that they are one). The shown colour is handed
-// back as a part of a lent table, not copied; hd153108_pixel_c has the copy for C. No call here changes a state or a
-// table. Not modelled: analogue output, blanking, pipeline delay.
+// Source document 003, Table 4, with document 01's rulings, decides; the rule is `pixelPart` of hd153108's
+// specs/Hd153108.antt, which is `called` of `pixels` (`pixel-lent` says that they are one). The shown colour is handed
+// back as a part of a lent table, not copied; hd153108_pixel_c has the copy for C, and hd153108_pixel_refusal the
+// refusal. The call changes neither state nor table. Not modelled: analogue output, blanking, pipeline delay.
 use hd153108::State;
 use hd153108_shown::Pick;
 use hd153108_shown::picked;
 ghost use mathlib.Core.Path.{_≡_};
-ghost use Rattle.hd153108.specs.Hd153108.{chip, pixelPart, pixels, called};
+ghost use Rattle.hd153108.specs.Hd153108.{chip, pixelPart};
 
 // The shown colour: three bytes of the chosen table, or no byte where the pixel is refused.
 pub fn pixel<'a>(
@@ -33,26 +33,5 @@ pub fn pixel<'a>(
             &overlays[at..at + 3]
         }
         Pick::Refused(_) => &colours[0..0],
-    }
-}
-
-// The refusal of the same input, 0 if none.
-#[no_mangle]
-pub extern "C" fn zk_a_pixel_refusal(
-    s: State,
-    colours: &[u8],
-    overlays: &[u8],
-    enable: u8,
-    number: u8,
-    byte: u8,
-) -> u8
-    ensures { λ r. ⌜ r
-        ≡ called (pixels enable number byte) (chip s (now (colours .entry)) (now (overlays .entry))) .refusal ⌝ }
-{
-    let p = picked(s, colours, overlays, enable, number, byte);
-    match p {
-        Pick::Colour(_) => 0,
-        Pick::Overlay(_) => 0,
-        Pick::Refused(n) => n,
     }
 }

@@ -76,23 +76,23 @@ module _ (enable number byte : ℕ) (s : State) (cs os : List ℕ) {n : ℕ} (e 
     pub picked-number : 4 ≤ number → Picked enable number byte (chip s cs os) (Refused 9)
     picked-number h = outside-refused enable number byte _ fine (λ g. omega arith)
 
-    module _ (i : ℕ) {b off : Bool} {m : ℕ} (low : enable < 2) (few : number < 4)
-        (test : b ≡ isColour (shownTable enable number s)) (blink : off ≡ isOff (s .clock)) (is : i ≡ m) where
-      pub picked-colour : b ≡ true → m ≡ masked 8 off (s .readmask) (s .blinkmask) byte
+    module _ (i : ℕ) {b off : Bool} (low : enable < 2) (few : number < 4)
+        (test : b ≡ isColour (shownTable enable number s)) (blink : off ≡ isOff (s .clock)) where
+      pub picked-colour : b ≡ true → i ≡ masked 8 off (s .readmask) (s .blinkmask) byte
           → Picked enable number byte (chip s cs os) (Colour i)
       unfolding shownEntry
       picked-colour h p =
-          let entry : i ≡ shownEntry colour number byte s = is ∙ (p ∙ rw blink) in
+          let entry : i ≡ shownEntry colour number byte s = p ∙ rw blink in
           record {
             means = rw entry (shows enable number byte _ fine low few colour (is-colour _ (sym test ∙ h)));
             inside = omega (arith, fine .colours, masked-fits 8 (isOff (s .clock)) (s .readmask) (s .blinkmask) byte);
           }
 
-      pub picked-overlay : b ≡ false → m ≡ masked 2 off (s .control) (s .control / 4) number
+      pub picked-overlay : b ≡ false → i ≡ masked 2 off (s .control) (s .control / 4) number
           → Picked enable number byte (chip s cs os) (Overlay i)
       unfolding shownEntry
       picked-overlay h p =
-          let entry : i ≡ shownEntry overlay number byte s = is ∙ (p ∙ rw blink) in
+          let entry : i ≡ shownEntry overlay number byte s = p ∙ rw blink in
           record {
             means = rw entry (shows enable number byte _ fine low few overlay (is-overlay _ (sym test ∙ h)));
             inside =

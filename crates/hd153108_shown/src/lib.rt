@@ -17,12 +17,6 @@ pub enum Pick {
     Refused(u8),
 }
 
-fn wide(x: u8) -> usize
-    ensures { λ r. ⌜ r ≡ x ⌝ }
-{
-    x as usize
-}
-
 // Whether the colour table shows.
 fn shows_colour(enable: u8, b6: u8, number: u8) -> bool
     ensures { λ r. ⌜ r ≡ isColour (selected enable b6 number) ⌝ }
@@ -40,7 +34,7 @@ fn shows_colour(enable: u8, b6: u8, number: u8) -> bool
 pub fn picked(s: State, colours: &[u8], overlays: &[u8], enable: u8, number: u8, byte: u8) -> Pick
     ensures { λ r. ⌜ Picked enable number byte (chip s (now (colours .entry)) (now (overlays .entry))) r ⌝ }
 {
-    let refusal = hd153108_port::standing(s, colours.len(), overlays.len());
+    let refusal = hd153108_range::standing(s, colours.len(), overlays.len());
     if refusal != 0 {
         return Pick::Refused(refusal);
     }
@@ -51,9 +45,9 @@ pub fn picked(s: State, colours: &[u8], overlays: &[u8], enable: u8, number: u8,
         return Pick::Refused(9);
     }
     let control = s.control;
-    let off = hd153108_port::blink_off(s.clock);
+    let off = hd153108_range::blink_off(s.clock);
     if shows_colour(enable, control / 64 % 2, number) {
-        return Pick::Colour(wide(masked_byte(off, s.readmask, s.blinkmask, byte)));
+        return Pick::Colour(masked_byte(off, s.readmask, s.blinkmask, byte) as usize);
     }
-    Pick::Overlay(wide(masked_number(off, control, number)))
+    Pick::Overlay(masked_number(off, control, number) as usize)
 }

@@ -4,7 +4,7 @@
 // specs/Hd153108.antt, which is `called` of `ticks` on the chip that has the clock (`tick-lent`). Not modelled: as
 // there.
 use hd153108::Clock;
-use hd153108_port::period_of;
+use hd153108_range::period_of;
 ghost use mathlib.Core.Path.{_≡_};
 ghost use Rattle.hd153108.specs.Hd153108.{clock, tick, clockOutcome};
 

@@ -54,7 +54,7 @@ pub fn registers(s: State) -> State {
 pub fn clock(k: Clock) -> Clock {
     let numbers = [k.timing, k.position];
     fields(b"timing=% position=%", &numbers);
-    if hd153108_port::blink_off(k) {
+    if hd153108_range::blink_off(k) {
         script::rest(b" off\n", 0);
         return k;
     }
@@ -102,7 +102,14 @@ pub fn pixel<'a>(s: State, line: &[u8], colours: &'a [u8], overlays: &'a [u8]) -
     let enable = script::byte(line, 2);
     let number = script::byte(line, 5);
     let byte = script::byte(line, 8);
-    let refusal = hd153108_pixel::zk_a_pixel_refusal(s, colours, overlays, enable, number, byte);
+    let refusal = hd153108_pixel_refusal::zk_a_pixel_refusal(
+        s,
+        colours,
+        overlays,
+        enable,
+        number,
+        byte,
+    );
     let numbers = [enable, number, byte, refusal];
     fields(b"pixel enable=% number=% byte=% refused=%, shows", &numbers);
     bytes(hd153108_pixel::pixel(s, colours, overlays, enable, number, byte));

@@ -10,7 +10,7 @@ use hd153108_port::accepted;
 use hd153108_port::next_colour;
 use hd153108_port::next_overlay;
 use hd153108_port::refused;
-use hd153108_port::standing;
+use hd153108_range::standing;
 ghost use mathlib.Core.Path.{_≡_};
 ghost use Rattle.hd153108.specs.Hd153108.{chip, outcome, writes, called};
 

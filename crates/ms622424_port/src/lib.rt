@@ -1,10 +1,8 @@
-// The MS622424: what its calls share. The answers, the ranges that every call tries first, the step of a palette
-// access.
+// The MS622424: what its calls share. The answers, and the step of a palette access. The ranges that every call tries
+// first stand in ms622424_range.
 //
-// Source document 004 and document 01, "Chip B", decide; ms622424's specs/Ms622424.antt says it. How the queue is kept
-// is not known here: ms622424_queue and the crates beside it keep it. Not modelled: as there.
-pub mod range;
-
+// Source document 004 and document 01, "Chip B", decide; ms622424's specs/Ms622424.antt says it. Not modelled: as
+// there.
 use ms622424::Port;
 use ms622424_places::Answer;
 use ms622424_places::State;

@@ -2,33 +2,17 @@
 //
 // Document 01, "Chip B", decides; ms622424's specs/Ms622424.antt says it (`queueRanges`), and ms622424_places how the
 // places keep it.
+use ms622424_gather::gathered;
 use ms622424_places::State;
 ghost use mathlib.Core.Path.{_≡_};
 ghost use mathlib.Core.Bool.{_&&_};
 ghost use mathlib.Core.List.{[]};
-ghost use Prim.Native.Nat.{ℕ, _-_, _^_, _≤_};
-ghost use lib.Dec.{ltb};
+ghost use Prim.Native.Nat.{_≤_};
 ghost use lib.ListN.{length, take, drop};
 ghost use Rattle.vocabulary.specs.Range.{meets};
 ghost use Rattle.vocabulary.specs.Every.{every};
 ghost use Rattle.ms622424.specs.Ms622424.{inMap, queueRanges};
 ghost use Rattle.ms622424_places.specs.Places.{entriesIn, isZero, handed, view};
-
-// The bits of the places from `from` to before `to`, gathered. They are below a power of 2 exactly when each place is.
-// There is no branch in the loop: it can be vectorized.
-fn gathered(queue: &[u64], from: usize, to: usize) -> u64
-    requires { ⌜ (from ≤ to) × (to ≤ length (now queue)) ⌝ }
-    ensures { λ r. ⌜ ((k : ℕ)
-        → ltb r (2 ^ k) ≡ every (λ n. ltb n (2 ^ k)) (take (to - from) (drop from (now (queue .entry))))) ⌝ }
-{
-    let mut bits: u64 = 0;
-    let mut i = from;
-    while i < to {
-        bits = bits | queue[i];
-        i += 1;
-    }
-    bits
-}
 
 // Every waiting entry has an address of the map, and every unused place is zero. All places are gathered first, by two
 // fixed loops that the compiler unrolls; where one is not zero, the unused ones up to the end of their half again.

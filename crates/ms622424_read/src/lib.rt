@@ -15,7 +15,7 @@ pub extern "C" fn zk_b_read(s: State, select: u8, queue: &[u64], map: &[u8]) -> 
     ensures { λ r. ⌜ Does (handed s (now (queue .entry)) (now (map .entry)))
         (outcome r (now (queue .entry)) (now (map .entry))) (called (reads select)) ⌝ }
 {
-    let refusal = ms622424_port::range::standing_tables(s, queue, map.len());
+    let refusal = ms622424_range::standing_tables(s, queue, map.len());
     if refusal != 0 {
         return refused(refusal, s);
     }

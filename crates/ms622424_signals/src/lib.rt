@@ -24,7 +24,7 @@ pub extern "C" fn zk_b_sync(s: State, signals: u8, queue: &[u64]) -> Answer
     ensures { λ r. ⌜ ((m : List ℕ) → Does (handed s (now (queue .entry)) m) (outcome r (now (queue .entry)) m)
         (called (signalsCall signals))) ⌝ }
 {
-    let refusal = ms622424_port::range::standing_queue(s, queue);
+    let refusal = ms622424_range::standing_queue(s, queue);
     if refusal != 0 {
         return ms622424_port::refused(refusal, s);
     }

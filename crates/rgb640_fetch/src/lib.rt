@@ -1,4 +1,4 @@
-// Chip C, the palette port of the RGB640: the fetch of an entry, and the step of the offset.
+// Chip C, the palette port of the RGB640: the fetch of an entry.
 //
 // Source document 001, sections 9.3 and 9.4.1, and document 01, "Chip C", decide; the rules are in rgb640's
 // specs/Rgb640.antt. Not modelled: as there.
@@ -6,14 +6,7 @@ use rgb640::Colour;
 use rgb640::State;
 ghost use mathlib.Core.Path.{_≡_};
 ghost use lib.ListN.{length};
-ghost use Rattle.rgb640.specs.Rgb640.{next, fetchesEntry, prefetched};
-
-// The index with its offset stepped.
-pub fn next_index(index: u16) -> u16
-    ensures { λ r. ⌜ r ≡ next index ⌝ }
-{
-    index - index % 1024 + (index % 1024 + 1) % 1024
-}
+ghost use Rattle.rgb640.specs.Rgb640.{fetchesEntry, prefetched};
 
 // The index's entry is fetched, its numbers taken modulo 1,024.
 pub fn fetch(s: State, table: &[u16]) -> State

@@ -26,7 +26,7 @@ fn restart(s: State) -> State
     let mut n = s;
     n.place = 0;
     if s.update & 2 == 0 {
-        n.index = rgb640_fetch::next_index(s.index);
+        n.index = rgb640_next::next_index(s.index);
     }
     n
 }

@@ -1,5 +1,5 @@
 // Chip C, the palette port of the RGB640: what a write and a read share. The answers, and the ranges that both try
-// first; the fetch and the step of the offset are in rgb640_fetch.
+// first; the fetch is in rgb640_fetch, and the step of the offset in rgb640_next.
 //
 // Source document 001, sections 9.3 and 9.4.1, and document 01, "Chip C", decide; the rules are in rgb640's
 // specs/Rgb640.antt. Not modelled: as there.

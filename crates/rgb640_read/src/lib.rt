@@ -5,7 +5,7 @@
 use rgb640::Answer;
 use rgb640::State;
 use rgb640_fetch::fetch;
-use rgb640_fetch::next_index;
+use rgb640_next::next_index;
 use rgb640_port::accepted;
 use rgb640_port::refused;
 use rgb640_port::standing_of;

@@ -1,18 +1,14 @@
 -- A key's line at the start of a text, by its tests, and the numbers of its parts. Assumes nothing.
 use Prim.Native.Nat.{ℕ, _≤_, _<_}
-use mathlib.Core.Path.{_≡_, refl, sym}
+use mathlib.Core.Path.{_≡_, sym}
 use mathlib.Core.Bool.{Bool, true, false}
 use mathlib.Core.List.{List}
-use lib.Bits.{bitAnd}
-use lib.Dec.{eqb, ltb}
 use lib.ListN.{length}
-use borrow.Author.Tests.{ltb-true, ltb-false}
 use Rattle.vocabulary.specs.Choice.{pick}
-use Rattle.vocabulary.proofs.Choice.{cases}
 use Rattle.hex.specs.Hex.{hex, number}
 use Rattle.sheet.specs.declared.Line.the-variants.{Has, Missing}
 use Rattle.sheet.specs.Sheet.{keyAt, front, width, takes, lineText, starts, spelt, lineOf}
-use Rattle.sheet.proofs.Texts.{key-o, key-c, firsts, takes-entry}
+use Rattle.sheet.proofs.Texts.{key-o, key-c}
 
 -- how much stands before a key's digits
 pub front-first : {k j n : ℕ} → k ≡ j → n ≡ length (front (keyAt j)) → n ≡ length (front (keyAt k))
@@ -26,20 +22,6 @@ module _ (k : ℕ) where
   pub front-c : 9 ≤ k → 4 ≡ length (front (keyAt k))
   unfolding front hex
   front-c h = rw (key-c k h)
-
--- only the overlay control is choosy
-module _ (k v : ℕ) where
-  pub takes-overlay : k ≡ 3 → eqb (bitAnd v 176) 0 ≡ takes (keyAt k) v
-  unfolding keyAt pick
-  takes-overlay e = rw e
-
-  pub takes-other : (k ≡ 3 → ⊥) → true ≡ takes (keyAt k) v
-  takes-other h =
-      cases (ltb k 5)
-      (λ b.
-      firsts (λ k key. (k ≡ 3 → ⊥) → true ≡ takes key v) (λ n. refl) (λ n. refl) (λ n. refl) (λ n. absurd (n refl))
-      (λ n. refl) k (ltb-true k 5 b) h)
-      (λ b. sym (takes-entry k v (ltb-false k 5 b)))
 
 -- what was read is the line's value, and the line is there by two tests
 module _ (k : ℕ) (t : List ℕ) {v w i : ℕ} {word : List ℕ} {s : Bool} (read : v ≡ number w i t)

@@ -6,25 +6,8 @@
 ghost use mathlib.Core.Path.{_≡_};
 ghost use Prim.Native.Nat.{_+_, _<_};
 ghost use lib.ListN.{length};
-ghost use Rattle.sheet.specs.Sheet.{keyAt, front, width, takes as takesOf, starts, lineOf};
+ghost use Rattle.sheet.specs.Sheet.{keyAt, front, width, lineOf};
 use sheet::Line;
-
-// Whether a text starts with a word.
-fn begins(text: &[u8], word: &[u8]) -> bool
-    ensures { λ r. ⌜ r ≡ starts (now (word .entry)) (now (text .entry)) ⌝ }
-{
-    if text.len() < word.len() {
-        return false;
-    }
-    let mut i: usize = 0;
-    while i < word.len() {
-        if word[i] != text[i] {
-            return false;
-        }
-        i += 1;
-    }
-    true
-}
 
 // How many bytes stand before a key's digits.
 fn front_len(k: u16) -> usize
@@ -60,16 +43,6 @@ pub fn line_len(k: u16) -> usize
     front_len(k) + digit_count(k) + 1
 }
 
-// Whether a key takes a value: the overlay control has bits 7, 5 and 4 zero.
-fn takes(k: u16, v: u16) -> bool
-    ensures { λ r. ⌜ r ≡ takesOf (keyAt k) v ⌝ }
-{
-    if k == 3 {
-        return v & 176 == 0;
-    }
-    true
-}
-
 // A key's line at the start of a text.
 pub fn line_of(t: &[u8], k: u16) -> Line
     ensures { λ r. ⌜ r ≡ lineOf (keyAt k) (now (t .entry)) ⌝ }
@@ -78,10 +51,10 @@ pub fn line_of(t: &[u8], k: u16) -> Line
     let l = sheet_text::written(k, v);
     let bytes = l.bytes;
     let n = l.len;
-    if !begins(t, &bytes[..n]) {
+    if !sheet_fits::begins(t, &bytes[..n]) {
         return Line::Missing;
     }
-    if takes(k, v) {
+    if sheet_fits::takes(k, v) {
         return Line::Has(v);
     }
     Line::Missing

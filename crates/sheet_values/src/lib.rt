@@ -1,4 +1,4 @@
-// The values of a sheet, from chip A's state and tables, key by key; and whether the tables have a byte over 15.
+// The values of a sheet, from chip A's state and tables, key by key.
 //
 // Document 01, "The sheet and its calls", decides; the values are `values` of sheet's specs/Sheet.antt. The caller owns
 // state and tables. Not modelled: as in sheet_writer.
@@ -10,20 +10,6 @@ ghost use Rattle.hd153108.specs.Hd153108.{chip};
 ghost use Rattle.sheet.specs.Sheet.{keys, coloursIn, values, overFifteenIn};
 ghost use Rattle.sheet_written.specs.Writer.{Writable};
 use hd153108::State;
-
-// Whether a table has a byte over 15.
-pub fn over_fifteen(table: &[u8]) -> bool
-    ensures { λ r. ⌜ r ≡ overFifteenIn (now (table .entry)) ⌝ }
-{
-    let mut i: usize = 0;
-    while i < table.len() {
-        if 15 < table[i] {
-            return true;
-        }
-        i += 1;
-    }
-    false
-}
 
 // An entry's colour: its three bytes as hex digits.
 fn colour(table: &[u8], entry: usize) -> u16

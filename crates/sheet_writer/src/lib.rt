@@ -15,14 +15,14 @@ pub fn write_sheet<'a>(s: State, colours: &'a [u8], overlays: &'a [u8], out: &mu
     ensures { λ r. ⌜ outcome r (now (out .exit))
         ≡ write (chip s (now (colours .entry)) (now (overlays .entry))) (now (out .entry)) ⌝ }
 {
-    let refusal = hd153108_port::standing(s, colours.len(), overlays.len());
+    let refusal = hd153108_range::standing(s, colours.len(), overlays.len());
     if refusal != 0 {
         return Answer::Refused(refusal, 0);
     }
-    if sheet_values::over_fifteen(colours) {
+    if sheet_over::over_fifteen(colours) {
         return Answer::Refused(2, 0);
     }
-    if sheet_values::over_fifteen(overlays) {
+    if sheet_over::over_fifteen(overlays) {
         return Answer::Refused(2, 0);
     }
     if out.len() < 2134 {

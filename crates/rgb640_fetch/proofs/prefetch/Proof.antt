@@ -8,5 +8,7 @@ use Rattle.rgb640_fetch.proofs.prefetch.Tie as tie
 pub prefetch-spec : {M : Type 1} → statement M
 prefetch-spec =
     tie.close
-    (tie.spec (λ c κs. search needs) (λ c. search (fetches-entry, needs))
+    (tie.spec (λ c κs. search needs) (λ c.
+    let i = c .before .before .before .before .args .s .index in
+    fetches-entry i (omega arith) (omega arith) _ _ (c .fetch .ensures))
     (λ c. sym (fetches-nothing _ (λ l h. omega arith) _ _)) (λ c. sym (fetches-nothing _ (λ l h. omega arith) _ _)))

@@ -6,13 +6,22 @@ use borrow.Author.Needs.{needs}
 use Rattle.rgb640_write.proofs.data_write.Statement.{statement}
 use Rattle.rgb640_write.proofs.data_write.Tie as tie
 
-ruleset ends = (update-written, palette-written, not-written, stands-range, needs)
+-- the palette's arm
+returns-2 : tie.Need-returns-2
+returns-2 c =
+    let d = c .before .before .before in
+    palette-written _ _ _ (search needs) _ (d .before .before .before .before .before .before .pre) _ (omega arith)
+    (omega arith) (c .accepted2 .ensures) (d .palette-write .ensures)
 
 pub data-write-spec : {M : Type 1} → statement M
 data-write-spec =
     tie.close
-    (tie.spec (λ c. search ends) (λ c. search ends) (λ c. search ends) (λ c. search ends) (λ c. search ends)
-    (λ c. search ends) (λ c. search ends)
+    (tie.spec (λ c κs. search needs) (λ c κs. stands-range _ _ (c .before .before .before .before .before .pre))
+    (λ c κs. search needs) (λ c κs. search needs)
+    (λ c.
+    update-written _ _ _ (search needs) _ (c .before .before .before .pre) (c .before .match .keys1)
+    (c .accepted .ensures))
+    (λ c. search needs) returns-2
     (λ c.
     not-written _ _ _ (search needs) _ (c .before .before .before .before .pre) (c .refused .ensures)
     (c .before .before .match .rest .1)
