@@ -8,7 +8,7 @@ use rgb640_fetch::fetch;
 use rgb640_next::next_index;
 use rgb640_port::accepted;
 use rgb640_port::refused;
-use rgb640_port::standing_of;
+use rgb640_range::standing_of;
 ghost use mathlib.Core.Path.{_≡_};
 ghost use lib.ListN.{length};
 ghost use Rattle.rgb640.specs.Rgb640.{chip, reading, fetchesEntry, threeBytes, restarted, paletteTold, standingOf};

@@ -7,7 +7,7 @@ use rgb640::State;
 use rgb640_fetch::prefetch;
 use rgb640_port::accepted;
 use rgb640_port::refused;
-use rgb640_port::standing_of;
+use rgb640_range::standing_of;
 ghost use mathlib.Core.Path.{_≡_};
 ghost use lib.ListN.{length};
 ghost use Rattle.rgb640.specs.Rgb640.{chip, standingOf, outcome, writes, called};

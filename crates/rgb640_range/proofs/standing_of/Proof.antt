@@ -6,8 +6,8 @@ use Rattle.vocabulary.proofs.Range.{not-fails, holds-passes, misses-fails, meet
 use Rattle.vocabulary.proofs.Refusal.{refusal-is, refusal-none}
 use Rattle.rgb640.specs.Rgb640.{whole, stateRanges}
 use borrow.Author.Needs.{needs}
-use Rattle.rgb640_port.proofs.standing_of.Statement.{statement}
-use Rattle.rgb640_port.proofs.standing_of.Tie as tie
+use Rattle.rgb640_range.proofs.standing_of.Statement.{statement}
+use Rattle.rgb640_range.proofs.standing_of.Tie as tie
 
 returns : tie.Need-returns
 returns c = sym (refusal-is (standing _ _) [] lentLength _ refl tt (not-fails (whole _) (λ g. c .if1 .taken (g .0))))

@@ -2,8 +2,8 @@ use mathlib.Core.Path.{sym}
 use native.Mathlib.Omega.{arith}
 use Rattle.vocabulary.proofs.Range.{holds-meets, not-meets}
 use Rattle.rgb640.specs.Rgb640.{stateRanges}
-use Rattle.rgb640_port.proofs.in_range.Statement.{statement}
-use Rattle.rgb640_port.proofs.in_range.Tie as tie
+use Rattle.rgb640_range.proofs.in_range.Statement.{statement}
+use Rattle.rgb640_range.proofs.in_range.Tie as tie
 
 pub in-range-spec : {M : Type 1} → statement M
 in-range-spec =
