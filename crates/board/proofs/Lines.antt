@@ -5,7 +5,7 @@ use mathlib.Core.Path.{_≡_, refl}
 use Rattle.log.specs.declared.Chip as L
 use Rattle.log.specs.declared.Line.the-variants.{Choose, Expand, Bad}
 use Rattle.answers.specs.Answers.{badText}
-use Rattle.turns.specs.Turns.{Turn, turn}
+use Rattle.turns.specs.Turns.{turn}
 use Rattle.board.specs.Board.{Whole, boardTurn}
 
 module _ (w : Whole) where

@@ -13,8 +13,7 @@ use Rattle.sheet.specs.declared.Line.the-variants.{Has, Missing}
 use Rattle.sheet.specs.Sheet.{good, keys, sheetOf, registersOf, overlaysOf, coloursOf}
 use Rattle.sheet.proofs.Good.{sound}
 use Rattle.sheet.specs.Kept.{lineFor}
-use Rattle.calls.specs.Calls.{registerCalls, entryCalls, isThere}
-use Rattle.calls.specs.Calls.{tableCalls, callsOf}
+use Rattle.calls.specs.Calls.{registerCalls, entryCalls, isThere, tableCalls, callsOf}
 use Rattle.calls.specs.Kept.{entryCount, tableCount, Kept}
 use Rattle.calls.proofs.Stored.{length-bytes, kept-there, register-bytes}
 use Rattle.calls.proofs.Lent.{overlays-kept, colours-kept}

@@ -13,9 +13,9 @@ use Rattle.log.specs.Log.{lineOf}
 use Rattle.log.proofs.Patterns.{line-long}
 use Rattle.turns.specs.Turns.{turn}
 use Rattle.board.specs.Board.{Whole, boardTurn}
-use Rattle.hold.specs.Hold.{Hold, hold, holdingAll, Within}
+use Rattle.hold.specs.Hold.{hold, holdingAll, Within}
 use Rattle.hold.proofs.Holds.{Reading, reads}
-use Rattle.feed.specs.Feed.{Desk, desk, ended, fed, byLines, logOf, AllWithin, ByLines}
+use Rattle.feed.specs.Feed.{desk, fed, byLines, logOf, AllWithin, ByLines}
 use Rattle.feed.proofs.Bytes.{fed-more, fed-ended}
 
 -- what is held of a line says what the line says

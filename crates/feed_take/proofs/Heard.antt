@@ -1,7 +1,7 @@
 -- A text that was heard, as the bytes put to the board: where a line ended, its turn; else the hold alone. Assumes
 -- nothing.
 use Prim.Native.Nat.{ℕ}
-use mathlib.Core.Path.{_≡_, refl, sym, ap, _∙_}
+use mathlib.Core.Path.{_≡_, sym, ap, _∙_}
 use mathlib.Core.Bool.{true, false}
 use mathlib.Core.List.{List, []}
 use lib.ListN.{length, take}
@@ -10,7 +10,7 @@ use Rattle.vocabulary.specs.Choice.{pick}
 use Rattle.ms622424_places.specs.Places.{handed, Same}
 use Rattle.ms622424_places.proofs.Determined.{same-self}
 use Rattle.answers.specs.Answers.{Says}
-use Rattle.turns.specs.Turns.{turn, Took}
+use Rattle.turns.specs.Turns.{Took}
 use Rattle.board.specs.declared.Board.{Board}
 use Rattle.board.specs.declared.Step.{Step}
 use Rattle.board.specs.Board.{Whole, whole, boardTurn, step, Answers, StepTook}

@@ -11,8 +11,7 @@ use Rattle.vocabulary.specs.Component.{Component, red, green, blue, colourWord}
 use Rattle.vocabulary.specs.Face.{calledBy}
 use Rattle.vocabulary.proofs.Range.{holds-passes, not-fails}
 use Rattle.vocabulary.proofs.Call.{stops, goes-on}
-use Rattle.ms622424.specs.Ms622424.{Chip, InRange, pixelByte, entryShown, gunShown, pixelRefusals, pixels}
-use Rattle.ms622424.specs.Ms622424.{called}
+use Rattle.ms622424.specs.Ms622424.{Chip, InRange, pixelByte, entryShown, gunShown, pixelRefusals, pixels, called}
 use Rattle.ms622424.proofs.InRange.{lengths-right, ranges-hold}
 
 byte-shown : (word : ℕ) (k : Component) → word < 2 ^ 24 → pixelByte k word < 256

@@ -9,7 +9,7 @@ use lib.Dec.{eqb}
 use lib.ListN.{length, List·getD-eq-default}
 use Rattle.vocabulary.specs.Refusal.{lentLength, outOfRange, noAccess, noIndex, readMode, stillWaiting}
 use Rattle.vocabulary.specs.Outcome.{Outcome, accepting, refusing}
-use Rattle.vocabulary.specs.Component.{Component, red, green, blue}
+use Rattle.vocabulary.specs.Component.{Component, green, blue}
 use Rattle.vocabulary.specs.Choice.{pick}
 use Rattle.vocabulary.specs.Face.{calledBy}
 use Rattle.vocabulary.proofs.Call.{stops, goes-on}

@@ -8,8 +8,7 @@ use native.Mathlib.Numerals.{add-one}
 use native.Mathlib.Omega.{arith}
 use borrow.Author.Tests.{ltb-true, lt-ltb, eqb-true}
 use lib.Dec.{ltb, eqb}
-use lib.ListN.{length, take, drop, set, replicate, length-set, length-append, length-drop, length-map}
-use lib.ListN.{length-replicate}
+use lib.ListN.{length, take, drop, set, replicate, length-set, length-append, length-drop, length-map, length-replicate}
 use lib.Seq.{take-suc-set, take-append-le, take-nil, drop-nil, length-take-le, drop-set-lt, drop-drop, drop-append-le}
 use Rattle.vocabulary.specs.Range.{meets}
 use Rattle.vocabulary.specs.Every.{every}

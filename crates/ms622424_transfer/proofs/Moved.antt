@@ -8,8 +8,7 @@ use native.Mathlib.Numerals.{add-one}
 use native.Mathlib.Omega.{arith}
 use borrow.Author.Tests.{ltb-true}
 use lib.Dec.{ltb}
-use lib.ListN.{length, getD, take, drop, set, replicate, length-drop}
-use lib.ListN.{take-append-drop, replicate-append-replicate}
+use lib.ListN.{length, getD, take, drop, set, replicate, length-drop, take-append-drop, replicate-append-replicate}
 use lib.Seq.{take-suc, drop-cons, length-take-le, set-at, take-at, append-snoc, getD-append-add, getD-drop}
 use lib.Seq.{drop-append-add, drop-drop, take-take, getD-take}
 use Rattle.vocabulary.specs.Every.{every}

@@ -16,12 +16,11 @@ use Rattle.expand.proofs.Width.{ten-below}
 use Rattle.rgb640.specs.declared.State.{State}
 use Rattle.rgb640.specs.declared.Colour.{Colour}
 use Rattle.rgb640.specs.Rgb640.{Chip, chip, lengths, ranges, standingOf, InRange, entry, increments, Direction}
-use Rattle.rgb640.specs.Rgb640.{colour, fetchesEntry, threeBytes, transferAt, follows}
-use Rattle.rgb640.specs.Rgb640.{restarted, stepped, taken, paletteTaken, paletteTold}
-use Rattle.rgb640.specs.Rgb640.{Space, updateControl, paletteWrite, paletteRead, nowhere, spaceOf}
-use Rattle.rgb640.specs.Rgb640.{Register, indexLow, indexHigh, indexData, notServed, registerAt}
-use Rattle.rgb640.specs.Rgb640.{at, served, wrote, dataWritten, told, dataRead}
-use Rattle.rgb640.specs.Rgb640.{writes, reads, resets, refusals, does, called}
+use Rattle.rgb640.specs.Rgb640.{colour, fetchesEntry, threeBytes, transferAt, follows, restarted, stepped, taken}
+use Rattle.rgb640.specs.Rgb640.{paletteTaken, paletteTold, Space, updateControl, paletteWrite, paletteRead}
+use Rattle.rgb640.specs.Rgb640.{nowhere, spaceOf, Register, indexLow, indexHigh, indexData, notServed, registerAt}
+use Rattle.rgb640.specs.Rgb640.{at, served, wrote, dataWritten, told, dataRead, writes, reads, resets, refusals}
+use Rattle.rgb640.specs.Rgb640.{does, called}
 use Rattle.rgb640.proofs.Index.{space-holds}
 use Rattle.rgb640.proofs.Order.{steps, stays}
 

@@ -9,11 +9,10 @@ use Rattle.vocabulary.proofs.Component.{put-others}
 use Rattle.vocabulary.proofs.Face.{called-holds}
 use Rattle.vocabulary.proofs.Range.{clash}
 use Rattle.vocabulary.proofs.Run.{unnoticed}
-use Rattle.rgb640.specs.Rgb640.{Chip, offset, threeBytes, follows, taken, paletteTaken}
-use Rattle.rgb640.specs.Rgb640.{Space, updateControl, paletteWrite, paletteRead, nowhere, spaceOf}
-use Rattle.rgb640.specs.Rgb640.{Register, indexLow, indexHigh, indexData, notServed, registerAt}
-use Rattle.rgb640.specs.Rgb640.{served, dataWritten, wrote, told, answers}
-use Rattle.rgb640.specs.Rgb640.{Call, writes, reads, resets, refusals, does, called}
+use Rattle.rgb640.specs.Rgb640.{Chip, offset, threeBytes, follows, taken, paletteTaken, Space, updateControl}
+use Rattle.rgb640.specs.Rgb640.{paletteWrite, paletteRead, nowhere, spaceOf, Register, indexLow, indexHigh}
+use Rattle.rgb640.specs.Rgb640.{indexData, notServed, registerAt, served, dataWritten, wrote, told, answers, Call}
+use Rattle.rgb640.specs.Rgb640.{writes, reads, resets, refusals, does, called}
 use Rattle.rgb640.proofs.Index.{space-holds}
 
 -- ---- What is done where nothing is refused gives no refusal itself

@@ -16,9 +16,8 @@ use Rattle.vocabulary.proofs.Refusal.{none-exactly}
 use Rattle.hd153108.specs.Hd153108.{Chip, InRange}
 use Rattle.hd153108.proofs.InRange.{in-range}
 use Rattle.sheet.specs.declared.Line.the-variants.{Has}
-use Rattle.sheet.specs.Sheet.{keyAt, lineText, good, readFrom, sheetOf}
-use Rattle.sheet.specs.Sheet.{coloursIn, values, chipLines, textFrom, textOf, pasted, overFifteenIn, writeRefusals}
-use Rattle.sheet.specs.Sheet.{write}
+use Rattle.sheet.specs.Sheet.{keyAt, lineText, good, readFrom, sheetOf, coloursIn, values, chipLines, textFrom, textOf}
+use Rattle.sheet.specs.Sheet.{pasted, overFifteenIn, writeRefusals, write}
 use Rattle.sheet.proofs.Texts.{width-entry, takes-entry}
 use Rattle.sheet.proofs.Lines.{line-there}
 use Rattle.sheet.proofs.Good.{Lawful}

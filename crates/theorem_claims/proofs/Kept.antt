@@ -1,5 +1,5 @@
 -- No chip locks itself out: each chip's own laws, gathered. Assumes nothing.
-use mathlib.Core.Path.{_≡_, sym, ap, subst}
+use mathlib.Core.Path.{_≡_, sym, subst}
 use mathlib.Core.Bool.{false}
 use native.Mathlib.Omega.{arith}
 use Rattle.vocabulary.specs.Outcome.{Outcome}
@@ -14,7 +14,7 @@ use Rattle.ms622424.proofs.InRange as BR
 use Rattle.ms622424.proofs.Kept as BK
 use Rattle.rgb640.specs.Rgb640 as C
 use Rattle.rgb640.proofs.InRange as CR
-use Rattle.theorem_claims.specs.Kept.{NeverLockedOut, NoneLockedOut}
+use Rattle.theorem_claims.specs.Kept.{NoneLockedOut}
 
 -- ---- an accepted reset
 a-restores : (c : A.Chip) → A.short c ≡ false → Accepted A.called A.resets c → A.InRange (A.called A.resets c .left)

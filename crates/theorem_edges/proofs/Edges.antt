@@ -1,22 +1,19 @@
 -- THE EDGES: p1 to p12. Assumes nothing.
-use Prim.Native.Nat.{ℕ, zero, suc, _+_, _<_, _≤_}
+use Prim.Native.Nat.{ℕ, _+_, _<_, _≤_}
 use mathlib.Core.Path.{_≡_, refl, sym, ap, subst, _∙_}
 use mathlib.Core.Bool.{true}
-use mathlib.Core.List.{List}
 use native.Mathlib.Omega.{arith}
 use lib.Dec.{leb, eqb}
 use lib.ListN.{replicate, length-replicate}
 use Rattle.vocabulary.specs.Choice.{pick}
 use Rattle.vocabulary.specs.Outcome.{Outcome, accepting}
-use Rattle.vocabulary.specs.Every.{every}
 use Rattle.vocabulary.proofs.Every.{every-replicate}
 use Rattle.vocabulary.proofs.Face.{called-clear, called-does}
 use Rattle.vocabulary.proofs.Range.{passes-holds}
 use Rattle.expand.specs.Expand.{ten}
 use Rattle.expand.proofs.Width.{expansion-accepted}
 use Rattle.ms622424.specs.Ms622424.{Chip, chip, port, control, Entry, InRange, inMap, places, fresh, registerAt}
-use Rattle.ms622424.specs.Ms622424.{readable, answers, activeLow, mark, statusOf, statusByte}
-use Rattle.ms622424.specs.Ms622424.{resets, refusals, does, called}
+use Rattle.ms622424.specs.Ms622424.{readable, answers, activeLow, mark, statusOf, statusByte, resets, refusals, does}
 use Rattle.ms622424.proofs.Read.{read-does}
 use Rattle.ms622424.proofs.Kept.{fresh-in-range}
 use Rattle.theorem_edges.specs.Edges.{Answers, Fresh, Status, Edges}

@@ -2,7 +2,6 @@
 -- Assumes nothing.
 use Prim.Native.Nat.{ℕ}
 use mathlib.Core.Path.{_≡_, refl, sym, ap, subst, _∙_}
-use lib.ListN.{take, drop}
 use Rattle.vocabulary.specs.Component.{Component, red, green, blue}
 use Rattle.vocabulary.proofs.Face.{called-holds}
 use Rattle.ms622424.specs.Ms622424.{Chip, Register, addressLow, addressHigh, palette, command, status, buffer}

@@ -6,14 +6,13 @@ use native.Mathlib.Omega.{arith}
 use Rattle.vocabulary.proofs.Choice.{cases, picks-first, picks-second}
 use Rattle.vocabulary.proofs.Face.{called-holds}
 use Rattle.rgb640.specs.declared.State.{State}
-use Rattle.rgb640.specs.Rgb640.{Chip, chip, at, next, increments, Direction, writing, reading, state}
-use Rattle.rgb640.specs.Rgb640.{Transfer, threeBytes, follows, restarted, stepped, taken, paletteTaken, paletteTold}
-use Rattle.rgb640.specs.Rgb640.{fetchesNothing, fetchesEntry, Space, updateControl, paletteWrite, paletteRead}
-use Rattle.rgb640.specs.Rgb640.{nowhere, spaceOf, Register, indexLow, indexHigh, indexData, notServed, registerAt}
-use Rattle.rgb640.specs.Rgb640.{served, dataWritten, wrote, dataRead, told, answers}
-use Rattle.rgb640.specs.Rgb640.{writes, reads, refusals, does, called}
+use Rattle.rgb640.specs.Rgb640.{Chip, chip, at, next, increments, Direction, writing, reading, state, Transfer}
+use Rattle.rgb640.specs.Rgb640.{threeBytes, follows, restarted, stepped, taken, paletteTaken, paletteTold}
+use Rattle.rgb640.specs.Rgb640.{fetchesNothing, fetchesEntry, Space, updateControl, paletteWrite, paletteRead, nowhere}
+use Rattle.rgb640.specs.Rgb640.{spaceOf, Register, indexLow, indexHigh, indexData, notServed, registerAt, served}
+use Rattle.rgb640.specs.Rgb640.{dataWritten, wrote, dataRead, told, answers, writes, reads, refusals, does, called}
 use Rattle.rgb640.proofs.Index.{space-holds}
-use Rattle.theorem_moves.specs.MovesC.{PlaceAlone, PaletteAlone, RegisterAlone, DataWriteLeaves}
+use Rattle.theorem_moves.specs.MovesC.{PlaceAlone, PaletteAlone, DataWriteLeaves}
 use Rattle.theorem_moves.specs.MovesC.{DataReadLeaves, WriteLeaves, ReadLeaves}
 
 -- ---- as it was

@@ -13,10 +13,9 @@ use Rattle.expand.proofs.Width.{ten-below, ten-top}
 use Rattle.rgb640.specs.declared.State.{State}
 use Rattle.rgb640.specs.declared.Colour.{Colour}
 use Rattle.rgb640.specs.declared.Answer.{Answer}
-use Rattle.rgb640.specs.Rgb640.{Chip, chip, at, latching, fetching, registerAt, writing, offset, entry}
-use Rattle.rgb640.specs.Rgb640.{threeBytes, restarted, paletteTaken, paletteTold, Space, paletteWrite}
-use Rattle.rgb640.specs.Rgb640.{paletteRead, prefetched, wrote, acceptTold, outcome, Call, writes, reads, called}
-use Rattle.rgb640.specs.Rgb640.{InRange}
+use Rattle.rgb640.specs.Rgb640.{Chip, chip, at, latching, fetching, registerAt, writing, offset, entry, threeBytes}
+use Rattle.rgb640.specs.Rgb640.{restarted, paletteTaken, paletteTold, Space, paletteWrite, paletteRead, prefetched}
+use Rattle.rgb640.specs.Rgb640.{wrote, acceptTold, outcome, Call, writes, reads, called, InRange}
 use Rattle.rgb640.proofs.Entry.{entry-put}
 use Rattle.rgb640.proofs.Index.{space-write, space-read, fetches-entry, fetches-nothing}
 use Rattle.rgb640.proofs.Order.{red-latched, green-latched, blue-stored, red-told, green-told, blue-told}

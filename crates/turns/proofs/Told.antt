@@ -1,7 +1,7 @@
 -- How a call's outcome is told, of any chip: the code's answer was told, and is the outcome that the chip's definition
 -- has. Assumes nothing.
 use Prim.Native.Nat.{ℕ, _/_, _%_, _<_}
-use mathlib.Core.Path.{_≡_, refl, sym}
+use mathlib.Core.Path.{_≡_, sym}
 use native.Mathlib.Omega.{arith}
 use borrow.Author.Tests.{eq-eqb, ne-eqb}
 use Rattle.vocabulary.specs.Outcome.{Outcome}
@@ -11,7 +11,7 @@ use Rattle.expand.specs.declared.Expanded.{Expanded}
 use Rattle.expand.specs.Expand.{meaning, expansion}
 use Rattle.answers.specs.declared.Text.{Text}
 use Rattle.answers.specs.Answers.{okText, badText, valueText, movedText, syncText, colourText, tenText, told, Says}
-use Rattle.turns.specs.Turns.{Turn, bad, done, valued, moved, signalled, poured, Took, expandText}
+use Rattle.turns.specs.Turns.{bad, done, valued, moved, signalled, poured, Took, expandText}
 
 -- a colour's bytes come back out of the one number
 module _ (r g b : ℕ) (hr : r < 256) (hg : g < 256) where

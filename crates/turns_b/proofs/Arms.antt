@@ -1,11 +1,10 @@
 -- The arms of chip B's turn, beside those of every chip (turns, Told). Assumes nothing.
 use Prim.Native.Nat.{ℕ}
-use mathlib.Core.Path.{_≡_, refl}
+use mathlib.Core.Path.{_≡_}
 use mathlib.Core.List.{List}
-use Rattle.vocabulary.specs.Outcome.{Outcome}
 use Rattle.ms622424.specs.Ms622424 as B
 use Rattle.ms622424.specs.Ms622424.{Chip, called, resets, signals}
-use Rattle.ms622424_places.specs.Places.{Handed, handed, view, outcome, Does, Same}
+use Rattle.ms622424_places.specs.Places.{handed, view, outcome, Does, Same}
 use Rattle.ms622424_places.proofs.Determined.{does-same}
 use Rattle.ms622424_places.specs.declared.State.{State}
 use Rattle.ms622424_places.specs.declared.Answer.{Answer}

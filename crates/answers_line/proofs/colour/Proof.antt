@@ -3,14 +3,13 @@ use mathlib.Core.Path.{refl}
 use lib.ListN.{length-append}
 use Rattle.hex.proofs.Number.{length-hex}
 use Rattle.answers.proofs.Adds.{says-line, adds-more}
-use borrow.Author.Needs.{needs}
 use Rattle.answers_line.proofs.colour.Statement.{statement}
 use Rattle.answers_line.proofs.colour.Tie as tie
 
 pub colour-spec : {M : Type 1} → statement M
 colour-spec =
     tie.close
-    (tie.spec (λ c. search needs) (λ c. search needs) (λ c. search needs) (λ c. search needs)
+    (tie.spec (λ c. search) (λ c. search) (λ c. search) (λ c. search)
     (λ c.
     let red = c .before .before .before .hex .ensures in let green = c .before .before .hex2 .ensures in
     let words = adds-more _ _ (adds-more _ _ red green) (c .before .hex3 .ensures) in

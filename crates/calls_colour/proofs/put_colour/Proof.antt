@@ -9,10 +9,9 @@ pub put-colour-spec : {M : Type 1} → statement M
 put-colour-spec =
     tie.close
     (tie.spec (λ c. search needs) (λ c. search needs) (λ c. search needs) (λ c. search needs) (λ c. search needs)
-    (λ c. simp length-set (omega arith)) (λ c. search needs) (λ c. simp length-set (omega arith))
-    (λ c. search needs) (λ c. simp length-set (omega arith)) (λ c. search needs)
-    (λ c. simp length-set (omega arith)) (λ c. search needs) (λ c. simp length-set (omega arith))
-    (λ c. search needs) (λ c. search needs)
+    (λ c. simp length-set (omega arith)) (λ c. search needs) (λ c. simp length-set (omega arith)) (λ c. search needs)
+    (λ c. simp length-set (omega arith)) (λ c. search needs) (λ c. simp length-set (omega arith)) (λ c. search needs)
+    (λ c. simp length-set (omega arith)) (λ c. search needs) (λ c. search needs)
     (λ c.
     let s = c .before .before .before .before in
     colour-stored _ _ _ _ (s .pre .0) (c .before .before .low .ensures) (c .before .low2 .ensures) (c .low3 .ensures)

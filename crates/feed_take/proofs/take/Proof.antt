@@ -1,5 +1,4 @@
 use Rattle.feed_take.proofs.Heard.{took-line, took-part, same-part}
-use borrow.Author.Needs.{needs}
 use Rattle.feed_take.proofs.take.Statement.{statement}
 use Rattle.feed_take.proofs.take.Tie as tie
 
@@ -33,6 +32,5 @@ returns-2 c =
 pub take-spec : {M : Type 1} → statement M
 take-spec =
     tie.close
-    (tie.spec (λ c κs. search needs) (λ c κs. search needs) (λ c. search needs)
-    (λ c. search needs) (λ c. search needs) (λ c. search needs) (λ c. search needs) (λ c. search needs)
-    (λ c. search needs) returns (λ c κs. search needs) (λ c. search needs) returns-2)
+    (tie.spec (λ c κs. search) (λ c κs. search) (λ c. search) (λ c. search) (λ c. search) (λ c. search) (λ c. search)
+    (λ c. search) (λ c. search) returns (λ c κs. search) (λ c. search) returns-2)

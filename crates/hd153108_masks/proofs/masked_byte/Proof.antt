@@ -12,8 +12,7 @@ masked-byte-spec =
     (λ c.
     let a = c .before .args in
     let on = masked-on 8 0 (a .read) (a .blink) (a .byte) (255 - a .read) (omega arith) (omega arith) in
-    rw (c .if1 .taken, on, masked-off 8 (a .read) (a .blink) (a .byte)))
-    (λ c. search needs)
+    rw (c .if1 .taken, on, masked-off 8 (a .read) (a .blink) (a .byte))) (λ c. search needs)
     (λ c.
     let a = c .before .args in
     rw (c .if1 .left, masked-on 8 0 (a .read) (a .blink) (a .byte) (255 - a .read) (omega arith) (omega arith))))

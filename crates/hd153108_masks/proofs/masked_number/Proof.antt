@@ -12,8 +12,7 @@ masked-number-spec =
     (λ c.
     let a = c .before .args in
     let on = masked-on 2 6 (a .control) (a .control / 4) (a .number) (255 - a .control) (omega arith) (omega arith) in
-    rw (c .if1 .taken, on, masked-off 2 (a .control) (a .control / 4) (a .number)))
-    (λ c. search needs)
+    rw (c .if1 .taken, on, masked-off 2 (a .control) (a .control / 4) (a .number))) (λ c. search needs)
     (λ c.
     let a = c .before .args in
     rw (

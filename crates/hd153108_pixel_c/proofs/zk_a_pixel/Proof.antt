@@ -1,15 +1,14 @@
 use Rattle.hd153108_shown.proofs.Rule.{told-as, inside-as}
 use Rattle.vocabulary.proofs.Pixel.{shown-as}
-use borrow.Author.Needs.{needs}
 use Rattle.hd153108_pixel_c.proofs.zk_a_pixel.Statement.{statement}
 use Rattle.hd153108_pixel_c.proofs.zk_a_pixel.Tie as tie
 
 pub zk-a-pixel-spec : {M : Type 1} → statement M
 zk-a-pixel-spec =
     tie.close
-    (tie.spec (λ c. search needs) (λ c. search needs)
-    (λ c κs. inside-as (c .before .before .before .picked .ensures) (c .before .p .given .1)) (λ c. search needs)
-    (λ c κs. inside-as (c .before .before .before .picked .ensures) (c .before .p2 .given .1)) (λ c. search needs)
+    (tie.spec (λ c. search) (λ c. search)
+    (λ c κs. inside-as (c .before .before .before .picked .ensures) (c .before .p .given .1)) (λ c. search)
+    (λ c κs. inside-as (c .before .before .before .picked .ensures) (c .before .p2 .given .1)) (λ c. search)
     (λ c.
     shown-as _ (c .shown-at .ensures)
     (told-as (c .before .before .before .before .picked .ensures) (c .before .before .p .given .1)))

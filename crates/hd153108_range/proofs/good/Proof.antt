@@ -3,7 +3,6 @@ use mathlib.Core.Path.{sym}
 use borrow.Author.Tests.{ltb-true, lt-ltb}
 use Rattle.vocabulary.proofs.Range.{not-meets, agree, meets-holds, holds-meets}
 use Rattle.hd153108.specs.Hd153108.{stateRanges}
-use borrow.Author.Needs.{needs}
 use Rattle.hd153108_range.proofs.good.Statement.{statement}
 use Rattle.hd153108_range.proofs.good.Tie as tie
 
@@ -20,4 +19,4 @@ good-spec =
     tie.close
     (tie.spec (λ c. sym (not-meets _ (λ g. omega arith))) (λ c. sym (not-meets _ (λ g. omega arith)))
     (λ c. sym (not-meets _ (λ g. omega arith))) (λ c. sym (not-meets _ (λ g. search (c .if4 .taken))))
-    (λ c κs. search needs) returns-5)
+    (λ c κs. search) returns-5)

@@ -2,7 +2,6 @@ use mathlib.Core.Path.{sym, _∙_}
 use borrow.Author.Tests.{not-true, not-false}
 use Rattle.vocabulary.proofs.Range.{not-fails, holds-passes, meets-passes, misses-fails}
 use Rattle.hd153108.proofs.Access.{stands-short, stands-outside, stands}
-use borrow.Author.Needs.{needs}
 use Rattle.hd153108_range.proofs.standing.Statement.{statement}
 use Rattle.hd153108_range.proofs.standing.Tie as tie
 
@@ -10,7 +9,7 @@ pub standing-spec : {M : Type 1} → statement M
 standing-spec =
     tie.close
     (tie.spec (λ c. stands-short _ (not-fails _ (λ g. search (c .if1 .taken))))
-    (λ c. stands-short _ (not-fails _ (λ g. search (c .if2 .taken)))) (λ c κs. search needs)
+    (λ c. stands-short _ (not-fails _ (λ g. search (c .if2 .taken)))) (λ c κs. search)
     (λ c.
     stands-outside (holds-passes _ (search))
     (misses-fails _ (sym (c .before .good2 .ensures) ∙ not-true _ (c .if3 .taken))))

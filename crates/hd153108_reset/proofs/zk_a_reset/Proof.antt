@@ -5,7 +5,6 @@ use Rattle.vocabulary.proofs.Call.{goes-on}
 use Rattle.hd153108.specs.declared.Answer.{Answer}
 use Rattle.hd153108.specs.declared.State.{State}
 use Rattle.hd153108.specs.Hd153108.{registers, restarted, accept, outcome}
-use borrow.Author.Needs.{needs}
 use Rattle.hd153108_reset.proofs.zk_a_reset.Statement.{statement}
 use Rattle.hd153108_reset.proofs.zk_a_reset.Tie as tie
 
@@ -18,4 +17,4 @@ returns c cs os =
     ap (λ (a : Answer). outcome a cs os) (c .accepted .ensures ∙ ap (accept 0) zeroed) ∙ goes-on [] 0 _ _ tt
 
 pub zk-a-reset-spec : {M : Type 1} → statement M
-zk-a-reset-spec = tie.close (tie.spec (λ c κs. search needs) (λ c κs. search needs) (λ c κs. search needs) returns)
+zk-a-reset-spec = tie.close (tie.spec (λ c κs. search) (λ c κs. search) (λ c κs. search) returns)

@@ -1,5 +1,4 @@
-use Rattle.hd153108_shown.proofs.Rule.{picked-first, picked-enable, picked-number, picked-colour}
-use Rattle.hd153108_shown.proofs.Rule.{picked-overlay}
+use Rattle.hd153108_shown.proofs.Rule.{picked-first, picked-enable, picked-number, picked-colour, picked-overlay}
 use borrow.Author.Needs.{needs}
 use Rattle.hd153108_shown.proofs.picked.Statement.{statement}
 use Rattle.hd153108_shown.proofs.picked.Tie as tie
@@ -29,6 +28,5 @@ picked-spec =
     picked-enable _ _ _ _ _ _ (c .before .before .standing .ensures) (c .before .if1 .left) (c .if2 .taken))
     (λ c.
     picked-number _ _ _ _ _ _ (c .before .before .before .standing .ensures) (c .before .before .if1 .left)
-    (c .if3 .taken))
-    (λ c κs. search needs) (λ c κs. search needs) (λ c κs. search needs) (λ c. search needs) returns-4
-    (λ c κs. search needs) (λ c. search needs) returns-5)
+    (c .if3 .taken)) (λ c κs. search needs) (λ c κs. search needs) (λ c κs. search needs) (λ c. search needs)
+    returns-4 (λ c κs. search needs) (λ c. search needs) returns-5)

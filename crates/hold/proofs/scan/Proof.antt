@@ -3,7 +3,7 @@ use Prim.Native.Nat.{_≤_, _-_, _+_}
 use mathlib.Core.Path.{_≡_, refl, sym, ap, _∙_}
 use native.Mathlib.Omega.{arith}
 use lib.ListN.{length, take, drop}
-use Rattle.hold.specs.Hold.{Hold, hold as held, holding, holdingAll, before}
+use Rattle.hold.specs.Hold.{hold as held, holding, holdingAll, before}
 use Rattle.hold.proofs.Texts.{before-all, before-lf, before-on, holding-on}
 use borrow.Author.Needs.{needs}
 use Rattle.hold.proofs.scan.Statement.{statement}

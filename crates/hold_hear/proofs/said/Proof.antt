@@ -1,13 +1,12 @@
 use mathlib.Core.Path.{sym}
 use native.Mathlib.Omega.{arith}
 use lib.Seq.{length-take-le, take-all}
-use borrow.Author.Needs.{needs}
 use Rattle.hold_hear.proofs.said.Statement.{statement}
 use Rattle.hold_hear.proofs.said.Tie as tie
 
 slice-aggregate-parse : tie.Need-slice-aggregate-parse
 slice-aggregate-parse c =
-    sym (length-take-le _ _ (search needs))
+    sym (length-take-le _ _ (search))
 
 returns-2 : tie.Need-returns-2
 returns-2 c =
@@ -16,5 +15,5 @@ returns-2 c =
 
 pub said-spec : {M : Type 1} → statement M
 said-spec =
-    tie.close (tie.spec slice-aggregate-parse (λ c κs. search needs) (λ c. search needs) (λ c κs. search needs)
+    tie.close (tie.spec slice-aggregate-parse (λ c κs. search) (λ c. search) (λ c κs. search)
     returns-2)

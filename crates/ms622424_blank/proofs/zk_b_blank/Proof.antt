@@ -29,7 +29,6 @@ returns-3 c =
 pub zk-b-blank-spec : {M : Type 1} → statement M
 zk-b-blank-spec =
     tie.close
-    (tie.spec (λ c κs. search needs) (λ c κs. search needs) (λ c. search needs)
-    (λ c. search (refuses, tried, needs)) (λ c κs. search needs) (λ c. search needs)
-    returns-2 (λ c κs. known (c .before .before .before))
+    (tie.spec (λ c κs. search needs) (λ c κs. search needs) (λ c. search needs) (λ c. search (refuses, tried, needs))
+    (λ c κs. search needs) (λ c. search needs) returns-2 (λ c κs. known (c .before .before .before))
     (λ c κs. search needs) (λ c. search needs) (λ c. search needs) returns-3)

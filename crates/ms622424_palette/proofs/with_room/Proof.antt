@@ -3,7 +3,6 @@ use Rattle.ms622424.proofs.Write.{palette-written}
 use Rattle.ms622424_places.specs.declared.Answer.{Answer}
 use Rattle.ms622424_places.specs.Places.{seen, outcome}
 use Rattle.ms622424_places.proofs.Does.{has-room}
-use borrow.Author.Needs.{needs}
 use Rattle.ms622424_palette.proofs.with_room.Statement.{statement}
 use Rattle.ms622424_palette.proofs.with_room.Tie as tie
 
@@ -25,5 +24,4 @@ returns c =
 pub with-room-spec : {M : Type 1} → statement M
 with-room-spec =
     tie.close
-    (tie.spec (λ c κs. search needs) take-byte-requires (λ c κs. search needs) (λ c. search needs)
-    (λ c. search needs) returns)
+    (tie.spec (λ c κs. search) take-byte-requires (λ c κs. search) (λ c. search) (λ c. search) returns)

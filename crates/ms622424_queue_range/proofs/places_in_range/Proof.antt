@@ -45,5 +45,4 @@ places-in-range-spec =
     let d = c .before .before in
     let g = d .before .before in
     back-used (places g) (waits g) _ _ (long g) (g .before .gathered .ensures) (g .gathered2 .ensures)
-    (d .if2 .left) (c .before .if3 .left) (c .if4 .taken))
-    (λ c κs. search needs) returns-5)
+    (d .if2 .left) (c .before .if3 .left) (c .if4 .taken)) (λ c κs. search needs) returns-5)

@@ -4,7 +4,6 @@ use native.Mathlib.Omega.{arith}
 use Rattle.vocabulary.proofs.Range.{not-meets}
 use Rattle.ms622424_places.specs.Places.{handed, view}
 use Rattle.ms622424_range.proofs.Standing.{queue-decides}
-use borrow.Author.Needs.{needs}
 use Rattle.ms622424_range.proofs.in_range.Statement.{statement}
 use Rattle.ms622424_range.proofs.in_range.Tie as tie
 
@@ -21,5 +20,5 @@ in-range-spec =
     tie.close
     (tie.spec (λ c. sym (not-meets _ (λ g. omega arith))) (λ c. sym (not-meets _ (λ g. omega arith)))
     (λ c. sym (not-meets _ (λ g. omega arith))) (λ c. sym (not-meets _ (λ g. omega arith)))
-    (λ c. sym (not-meets _ (λ g. omega arith))) (λ c. sym (not-meets _ (λ g. omega arith))) (λ c κs. search needs)
+    (λ c. sym (not-meets _ (λ g. omega arith))) (λ c. sym (not-meets _ (λ g. omega arith))) (λ c κs. search)
     returns-7)

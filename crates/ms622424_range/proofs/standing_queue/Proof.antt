@@ -2,7 +2,6 @@ use mathlib.Core.Path.{sym, _∙_}
 use borrow.Author.Tests.{not-true, not-false}
 use Rattle.vocabulary.proofs.Range.{not-fails, holds-passes, misses-fails, meets-passes}
 use Rattle.ms622424_range.proofs.Standing.{stands-short, stands-outside, stands}
-use borrow.Author.Needs.{needs}
 use Rattle.ms622424_range.proofs.standing_queue.Statement.{statement}
 use Rattle.ms622424_range.proofs.standing_queue.Tie as tie
 
@@ -19,5 +18,4 @@ returns-3 c =
 pub standing-queue-spec : {M : Type 1} → statement M
 standing-queue-spec =
     tie.close
-    (tie.spec (λ c. stands-short _ _ (not-fails _ (λ g. c .if1 .taken (g .0)))) (λ c κs. search needs) returns-2
-    returns-3)
+    (tie.spec (λ c. stands-short _ _ (not-fails _ (λ g. c .if1 .taken (g .0)))) (λ c κs. search) returns-2 returns-3)

@@ -45,8 +45,7 @@ zk-b-read-spec =
     (λ c.
     let d = c .before .before in
     accepts _ _ _ _ _ _ _ (c .accepted .ensures)
-    (read-does _ _ (known (d .before)) 0 (d .match .keys1) refl refl refl refl))
-    returns-3
+    (read-does _ _ (known (d .before)) 0 (d .match .keys1) refl refl refl refl)) returns-3
     (λ c. palette-served _ _ _ _ _ (known (c .before .before)) (c .before .match .keys3) (c .read-palette .ensures))
     returns-5
     (λ c.

@@ -3,7 +3,6 @@ use native.Mathlib.Omega.{arith}
 use Rattle.vocabulary.specs.Outcome.{accepting}
 use Rattle.ms622424.proofs.Reset.{reset-short, reset-outside, reset-does}
 use Rattle.ms622424_places.proofs.Does.{refuses, accepts, fresh-chip}
-use borrow.Author.Needs.{needs}
 use Rattle.ms622424_reset.proofs.zk_b_reset.Statement.{statement}
 use Rattle.ms622424_reset.proofs.zk_b_reset.Tie as tie
 
@@ -32,5 +31,5 @@ returns-4 c m =
 pub zk-b-reset-spec : {M : Type 1} → statement M
 zk-b-reset-spec =
     tie.close
-    (tie.spec (λ c κs. search needs) returns (λ c κs. search needs) returns-2 (λ c κs. search needs) returns-3
-    (λ c κs. search needs) (λ c κs. search needs) (λ c. search needs) returns-4)
+    (tie.spec (λ c κs. search) returns (λ c κs. search) returns-2 (λ c κs. search) returns-3
+    (λ c κs. search) (λ c κs. search) (λ c. search) returns-4)

@@ -3,7 +3,6 @@ use native.Mathlib.Omega.{arith}
 use Rattle.ms622424.proofs.Signals.{signals-tried, signals-outside, signals-range, signals-does}
 use Rattle.ms622424_places.specs.Places.{handed, view}
 use Rattle.ms622424_places.proofs.Does.{refuses, accepts}
-use borrow.Author.Needs.{needs}
 use Rattle.ms622424_signals.proofs.zk_b_sync.Statement.{statement}
 use Rattle.ms622424_signals.proofs.zk_b_sync.Tie as tie
 
@@ -36,5 +35,5 @@ returns-3 c m =
 pub zk-b-sync-spec : {M : Type 1} → statement M
 zk-b-sync-spec =
     tie.close
-    (tie.spec (λ c κs. search needs) (λ c κs. search needs) returns (λ c κs. search needs) returns-2 piped-requires
-    (λ c κs. search needs) returns-3)
+    (tie.spec (λ c κs. search) (λ c κs. search) returns (λ c κs. search) returns-2 piped-requires
+    (λ c κs. search) returns-3)

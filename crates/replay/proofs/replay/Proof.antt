@@ -1,6 +1,5 @@
 -- A turn is used up. By what `next` and `turn` promise.
 use native.Mathlib.Omega.{arith}
-use borrow.Author.Needs.{needs}
 use Rattle.replay.proofs.replay.Statement.{statement}
 use Rattle.replay.proofs.replay.Tie as tie
 
@@ -20,5 +19,5 @@ loop-less c =
 pub replay-spec : {M : Type 1} → statement M
 replay-spec =
     tie.close
-    (tie.spec Inv-loop μ-loop (λ c. search needs) (λ c κs. search needs) (λ c κs. search needs) (λ c κs. search needs)
-    loop-less (λ c. search needs) (λ c κs. search needs) (λ c. search needs))
+    (tie.spec Inv-loop μ-loop (λ c. search) (λ c κs. search) (λ c κs. search) (λ c κs. search)
+    loop-less (λ c. search) (λ c κs. search) (λ c. search))

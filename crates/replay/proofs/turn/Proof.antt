@@ -1,7 +1,6 @@
 -- No more is taken than the text has.
 use native.Mathlib.Omega.{arith}
 use Rattle.hold.proofs.Texts.{up-to-inside}
-use borrow.Author.Needs.{needs}
 use Rattle.replay.proofs.turn.Statement.{statement}
 use Rattle.replay.proofs.turn.Tie as tie
 
@@ -12,4 +11,4 @@ taken-requires c κs =
     omega (arith, t .take .ensures .0, up-to-inside (start .args .text .now), start .pre)
 
 pub turn-spec : {M : Type 1} → statement M
-turn-spec = tie.close (tie.spec (λ c κs. search needs) (λ c κs. search needs) taken-requires (λ c. search needs))
+turn-spec = tie.close (tie.spec (λ c κs. search) (λ c κs. search) taken-requires (λ c. search))

@@ -13,5 +13,4 @@ in-range-spec =
     (λ c. sym (not-meets (stateRanges _) (λ g. omega arith)))
     (λ c. sym (not-meets (stateRanges _) (λ g. omega arith)))
     (λ c. sym (not-meets (stateRanges _) (λ g. omega arith)))
-    (λ c. sym (not-meets (stateRanges _) (λ g. omega arith)))
-    (λ c. sym (holds-meets (stateRanges _) (omega arith))))
+    (λ c. sym (not-meets (stateRanges _) (λ g. omega arith))) (λ c. sym (holds-meets (stateRanges _) (omega arith))))

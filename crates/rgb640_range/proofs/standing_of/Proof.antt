@@ -5,7 +5,6 @@ use Rattle.vocabulary.specs.Refusal.{standing, lentLength, outOfRange}
 use Rattle.vocabulary.proofs.Range.{not-fails, holds-passes, misses-fails, meets-passes}
 use Rattle.vocabulary.proofs.Refusal.{refusal-is, refusal-none}
 use Rattle.rgb640.specs.Rgb640.{whole, stateRanges}
-use borrow.Author.Needs.{needs}
 use Rattle.rgb640_range.proofs.standing_of.Statement.{statement}
 use Rattle.rgb640_range.proofs.standing_of.Tie as tie
 
@@ -26,4 +25,4 @@ returns-3 c =
     ))
 
 pub standing-of-spec : {M : Type 1} → statement M
-standing-of-spec = tie.close (tie.spec returns (λ c κs. search needs) returns-2 returns-3)
+standing-of-spec = tie.close (tie.spec returns (λ c κs. search) returns-2 returns-3)

@@ -17,15 +17,14 @@ zk-c-write-spec =
     (tie.spec (λ c κs. search needs) (λ c κs. search needs)
     (λ c.
     stopped _ _ _ (search needs) _ _ (c .before .before .standing-of .ensures) (c .before .if1 .taken)
-    (c .refused .ensures))
-    (λ c. search needs) (λ c. search needs) (λ c κs. search needs) (λ c. search needs) (λ c. search needs)
-    (λ c κs. search (table-whole, needs)) (λ c κs. search needs)
+    (c .refused .ensures)) (λ c. search needs) (λ c. search needs) (λ c κs. search needs) (λ c. search needs)
+    (λ c. search needs) (λ c κs. search (table-whole, needs)) (λ c κs. search needs)
     (λ c κs. sym (c .before .before .before .standing-of .ensures) ∙ c .before .before .if1 .left)
     (λ c κs. search needs)
     (λ c.
     low-written _ _ _ (search needs) _ _ (c .before .before .before .standing-of .ensures)
-    (c .before .before .if1 .left) (c .before .match .keys1) (c .accepted .ensures))
-    (λ c. search needs) returns-3 (λ c. search needs)
+    (c .before .before .if1 .left) (c .before .match .keys1) (c .accepted .ensures)) (λ c. search needs) returns-3
+    (λ c. search needs)
     (λ c.
     let d = c .before .before in
     data-written _ _ _ _ _ _ (d .before .before .match .keys3) (d .data-write .ensures))

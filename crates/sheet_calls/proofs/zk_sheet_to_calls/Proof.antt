@@ -1,6 +1,5 @@
 use mathlib.Core.Path.{ap, _∙_}
 use Rattle.sheet.specs.Sheet.{telling}
-use borrow.Author.Needs.{needs}
 use Rattle.sheet_calls.proofs.zk_sheet_to_calls.Statement.{statement}
 use Rattle.sheet_calls.proofs.zk_sheet_to_calls.Tie as tie
 
@@ -9,4 +8,4 @@ returns c = c .told .ensures _ ∙ ap telling (c .before .before .before .sheet-
 
 pub zk-sheet-to-calls-spec : {M : Type 1} → statement M
 zk-sheet-to-calls-spec =
-    tie.close (tie.spec (λ c κs. search needs) (λ c κs. search needs) (λ c. search needs) returns)
+    tie.close (tie.spec (λ c κs. search) (λ c κs. search) (λ c. search) returns)

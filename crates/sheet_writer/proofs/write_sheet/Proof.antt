@@ -24,8 +24,7 @@ write-sheet-spec =
       takes-it _ (d .before .before .standing .ensures) (d .before .if1 .left) (d .over-fifteen .ensures)
           (b .before .if2 .left) (b .over-fifteen2 .ensures) (c .before .before .if3 .left),
       search needs,
-    ))
-    (λ c. search needs)
+    )) (λ c. search needs)
     (λ c.
     let b = c .before .before .before .before .before .before in
     let d = b .before .before in

@@ -1,5 +1,4 @@
 use Rattle.turns_b.proofs.Arms.{sync-done, turn-same}
-use borrow.Author.Needs.{needs}
 use Rattle.turns_b.proofs.sync.Statement.{statement}
 use Rattle.turns_b.proofs.sync.Tie as tie
 
@@ -10,4 +9,4 @@ returns c =
 pub sync-spec : {M : Type 1} → statement M
 sync-spec =
     tie.close
-    (tie.spec (λ c κs. search needs) (λ c κs. search needs) returns)
+    (tie.spec (λ c κs. search) (λ c κs. search) returns)
