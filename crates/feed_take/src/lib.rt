@@ -1,7 +1,7 @@
 // A log's bytes put to a board, up to the first LF.
 //
-// The rule is `fed` of feed's specs/Feed.antt: `take` equals it for what it takes, for any board, hold, text, tables
-// and page. All of them are lent but the board's states. Not modelled: as there.
+// The replay's description decides; the rule is `fed` of feed's specs/Feed.antt: `take` equals it for what it takes,
+// for any board, hold, text, tables and page. All of them are lent but the board's states. Not modelled: as there.
 use board::Board;
 use board::Step;
 ghost use mathlib.Core.Path.{_≡_};

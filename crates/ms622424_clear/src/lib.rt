@@ -1,7 +1,7 @@
 // The MS622424's lent queue: places cleared, all emptied.
 //
 // Source document 004, "Write FIFO", and document 01, "Chip B", decide: what is not used is zero, and a reset empties
-// the queue. ms622424_places says how the places keep it.
+// the queue. ms622424_places says how the places keep it. Not modelled: as in ms622424.
 use ms622424_places::Fifo;
 ghost use mathlib.Core.Path.{_≡_};
 ghost use mathlib.Core.Bool.{true};

@@ -1,6 +1,7 @@
 // The bits of lent places, gathered: what tells whether each place is below a power of 2.
 //
-// How the places keep a queue is said in ms622424_places, and which power is asked in ms622424_queue_range.
+// Document 01, "Chip B", decides what a place may hold: ms622424_places says how the places keep a queue, and
+// ms622424_queue_range which power is asked. Not modelled: anything of the chip but lent places.
 ghost use mathlib.Core.Path.{_≡_};
 ghost use Prim.Native.Nat.{ℕ, _-_, _^_, _≤_};
 ghost use lib.Dec.{ltb};

@@ -2,7 +2,8 @@
 //
 // Source document 004, "Write FIFO", and document 01, "Chip B", decide; ms622424's specs/Ms622424.antt says it
 // (`complete`), and ms622424_places how the places keep it. The code that knows the places is this crate and
-// ms622424_queue_range (their range), ms622424_clear, ms622424_store and ms622424_transfer.
+// ms622424_queue_range with ms622424_gather (their range), ms622424_clear, ms622424_store and ms622424_transfer. Not
+// modelled: as in ms622424.
 use ms622424::Port;
 use ms622424_places::Fifo;
 use ms622424_places::State;

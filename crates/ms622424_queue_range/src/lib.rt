@@ -1,7 +1,7 @@
 // The range of the MS622424's lent queue: what refusal 9 asks of its places and entries.
 //
 // Document 01, "Chip B", decides; ms622424's specs/Ms622424.antt says it (`queueRanges`), and ms622424_places how the
-// places keep it.
+// places keep it. Not modelled: as in ms622424.
 use ms622424_gather::gathered;
 use ms622424_places::State;
 ghost use mathlib.Core.Path.{_≡_};

@@ -2,7 +2,8 @@
 // identification, the end of read mode.
 //
 // Source document 004, "Internal Registers", and document 01, "Chip B", decide; ms622424's specs/Ms622424.antt says it
-// (`answers`, `bufferStepped`). A chip in range is asked for, whatever tables keep it.
+// (`answers`, `bufferStepped`). What is promised is of a chip in range, whatever tables keep it. Not modelled: as
+// there.
 use ms622424::Control;
 use ms622424::Port;
 use ms622424_places::Answer;

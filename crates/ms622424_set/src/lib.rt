@@ -1,7 +1,7 @@
 // The MS622424's registers that a write sets: the address and the command.
 //
 // Source document 004, "Internal Registers", and document 01, "Chip B", decide; ms622424's specs/Ms622424.antt says it
-// (`written`). A chip in range is asked for, whatever tables keep it.
+// (`written`). What is promised is of a chip in range, whatever tables keep it. Not modelled: as there.
 use ms622424::Control;
 use ms622424::Port;
 use ms622424_places::Answer;

@@ -1,7 +1,7 @@
 // The MS622424's Status Register.
 //
 // Source document 004, "Internal Registers", and document 01, "Chip B", decide; ms622424's specs/Ms622424.antt says it
-// (`statusOf`).
+// (`statusOf`). Not modelled: as there.
 use ms622424_places::State;
 ghost use mathlib.Core.Path.{_≡_};
 ghost use Prim.Native.Nat.{_+_, _<_, _≤_};

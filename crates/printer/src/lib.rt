@@ -1,6 +1,6 @@
 // Standard output behind a lent buffer: bytes wait there until it is full.
 //
-// No contract says what is printed; each function is proved safe, and ends.
+// Not modelled: what is printed, which no contract says; each function is proved safe, and ends.
 use libc::STDOUT_FILENO;
 
 // Prints what waits.

@@ -1,8 +1,9 @@
 // Reads a port log on standard input, puts it to one board, and prints what it answers.
 //
-// What a byte of the log does and answers is said by crate feed; here are reading and printing. It needs the same
-// memory whatever comes in. The input is read to its end, in at most as many turns as a u64 counts: a turn takes what
-// was read up to a line's end, and reads on where all of it was taken.
+// The replay's description decides; what a byte of the log does and answers is said by crate feed. Here are reading and
+// printing, which no contract speaks of: that is not modelled. It needs the same memory whatever comes in. The input is
+// read to its end, in at most as many turns as a u64 counts: a turn takes what was read up to a line's end, and reads
+// on where all of it was taken.
 use board::Board;
 use feed_take::Fed;
 use libc::STDIN_FILENO;

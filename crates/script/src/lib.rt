@@ -3,7 +3,7 @@
 //
 // A line's first byte says what is done. Its numbers stand at fixed places, in lower-case hex digits, and behind them a
 // label. What a line holds and where is said by the program that reads it. Of a line that is too short the missing
-// digits are 0: a list is compared by what the program prints.
+// digits are 0: a list is compared by what the program prints. Not modelled: what is printed, which no contract says.
 ghost use Prim.Native.Nat.{_≤_, _<_};
 ghost use lib.ListN.{length};
 use libc::STDOUT_FILENO;

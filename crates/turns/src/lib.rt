@@ -2,7 +2,7 @@
 //
 // The replay's description decides; specs/Turns.antt says how an outcome is told, of any chip, and proofs/Told.antt has
 // its laws. Which call of a chip a line makes is said for each chip in a crate of its own: turns_a, turns_b, turns_c.
-// Which chip a call goes to is the board's to say.
+// Not modelled: which chip a call goes to, which is the board's to say.
 use answers::News;
 use answers::Text;
 use expand::Expanded;

@@ -2,7 +2,7 @@
 //
 // The replay's description decides; specs/Turns.antt says which call of the chip is made and how its outcome is told,
 // of the chip that the state and the lent tables are (`view`). The queue and the map are lent, the state goes in and
-// comes back by value.
+// comes back by value. Not modelled: as in turns.
 use answers::News;
 use answers::Text;
 use log::Call;

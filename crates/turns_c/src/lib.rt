@@ -1,7 +1,7 @@
 // A log line's call made on chip C, and the line that answers it.
 //
 // The replay's description decides; specs/Turns.antt says which call of the chip is made and how its outcome is told.
-// The table is lent, the state goes in and comes back by value.
+// The table is lent, the state goes in and comes back by value. Not modelled: as in turns.
 use answers::News;
 use answers::Text;
 use log::Call;
