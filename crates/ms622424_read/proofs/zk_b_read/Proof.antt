@@ -4,7 +4,7 @@ use Rattle.ms622424.proofs.InRange.{past, tried}
 use Rattle.ms622424.proofs.Read.{read-does, not-read}
 use Rattle.ms622424_places.specs.Places.{handed, view}
 use Rattle.ms622424_places.proofs.Does.{refuses, accepts}
-use Rattle.ms622424_read.proofs.Arms.{status-served, palette-served, register-served}
+use Rattle.ms622424_read.proofs.Arms.{status-served}
 use borrow.Author.Needs.{needs}
 use Rattle.ms622424_read.proofs.zk_b_read.Statement.{statement}
 use Rattle.ms622424_read.proofs.zk_b_read.Tie as tie
@@ -46,13 +46,12 @@ zk-b-read-spec =
     let d = c .before .before in
     accepts _ _ _ _ _ _ _ (c .accepted .ensures)
     (read-does _ _ (known (d .before)) 0 (d .match .keys1) refl refl refl refl)) returns-3
-    (λ c. palette-served _ _ _ _ _ (known (c .before .before)) (c .before .match .keys3) (c .read-palette .ensures))
+    (λ c. rw (c .before .match .keys3) (c .read-palette .ensures _ (known (c .before .before))))
     returns-5
     (λ c.
     let d = c .before .before in
     status-served _ _ _ _ _ (known (d .before)) (d .match .keys5) (c .before .status .ensures) (c .accepted4 .ensures))
-    (λ c. register-served _ _ _ _ _ (known (c .before .before)) 5 (c .before .match .keys6) (c .read-buffer .ensures))
-    (λ c. register-served _ _ _ _ _ (known (c .before .before)) 6 (c .before .match .keys7) (c .read-ident .ensures))
-    (λ c.
-    register-served _ _ _ _ _ (known (c .before .before)) 7 (c .before .match .keys8) (c .end-read-mode .ensures))
+    (λ c. rw (c .before .match .keys6) (c .read-buffer .ensures _ _ (known (c .before .before))))
+    (λ c. rw (c .before .match .keys7) (c .read-ident .ensures _ _ (known (c .before .before))))
+    (λ c. rw (c .before .match .keys8) (c .end-read-mode .ensures _ _ (known (c .before .before))))
     (λ c. refuses _ _ _ _ _ (c .refused2 .ensures) (search (known, not-read, needs))))

@@ -4,7 +4,6 @@ use Rattle.ms622424.proofs.InRange.{past, tried}
 use Rattle.ms622424.proofs.Write.{write-does, not-written}
 use Rattle.ms622424_places.specs.Places.{handed, view}
 use Rattle.ms622424_places.proofs.Does.{refuses, accepts}
-use Rattle.ms622424_write.proofs.Arms.{arm-served, register-served}
 use borrow.Author.Needs.{needs}
 use Rattle.ms622424_write.proofs.zk_b_write.Statement.{statement}
 use Rattle.ms622424_write.proofs.zk_b_write.Tie as tie
@@ -18,8 +17,7 @@ known c = past _ (c .before .standing-tables .ensures) (c .if1 .left)
 
 -- the command's arm, and the one where the read mode begins
 returns-5 : tie.Need-returns-5
-returns-5 c =
-    register-served _ _ _ (c .before .match .keys4) _ _ _ _ (known (c .before .before)) (c .set-command .ensures)
+returns-5 c = rw (c .before .match .keys4) (c .set-command .ensures _ _ (known (c .before .before)))
 
 returns-6 : tie.Need-returns-6
 unfolding registerAt writable written
@@ -37,14 +35,12 @@ zk-b-write-spec =
     (tried _ _ _ refl refl (c .before .before .standing-tables .ensures) (c .before .if1 .taken)))
     (λ c κs. search needs) (λ c κs. search needs) (λ c κs. known (c .before .before .before)) (λ c κs. search needs)
     (λ c κs. search needs) (λ c κs. search needs) (λ c. search needs)
-    (λ c.
-    register-served _ _ _ (c .before .match .keys1) _ _ _ _ (known (c .before .before)) (c .set-address-low .ensures))
+    (λ c. rw (c .before .match .keys1) (c .set-address-low .ensures _ _ (known (c .before .before))))
     (λ c. search needs)
-    (λ c.
-    register-served _ _ _ (c .before .match .keys2) _ _ _ _ (known (c .before .before)) (c .set-address-high .ensures))
+    (λ c. rw (c .before .match .keys2) (c .set-address-high .ensures _ _ (known (c .before .before))))
     (λ c. search needs) (λ c. search needs)
     (λ c.
     let d = c .before .before .before .before in
-    arm-served _ _ _ (d .before .before .before .match .keys3) (d .write-palette .ensures))
+    rw (d .before .before .before .match .keys3) (d .write-palette .ensures))
     (λ c. search needs) returns-5 (λ c. search needs) returns-6 (λ c. search needs)
     (λ c. refuses _ _ _ _ _ (c .refused2 .ensures) (search (known, not-written, needs))))
