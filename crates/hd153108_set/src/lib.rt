@@ -1,7 +1,7 @@
 // The HD153108's registers that a write sets (chip A): the address, the masks, the overlay control, the blink timing.
 //
 // Source document 003, Address Register and Internal Registers, with document 01's rulings, decides; the rule is
-// `written` of hd153108's specs/Hd153108.antt. A chip in range is asked for, whatever tables it is lent. Not
+// `written` of hd153108's specs/Hd153108.antt. What is promised is of a chip in range, whatever tables it is lent. Not
 // modelled: as there.
 use hd153108::Answer;
 use hd153108::Clock;
