@@ -17,7 +17,7 @@ use Rattle.vocabulary.proofs.Call.{tried-first, stops, goes-on}
 use Rattle.hd153108.specs.declared.State.{State}
 use Rattle.hd153108.specs.declared.Answer.{Answer}
 use Rattle.hd153108.specs.Hd153108.{Chip, chip, registerAt, noRegister, ranges, short, outside, InRange}
-use Rattle.hd153108.specs.Hd153108.{accessRefusals, Call, writes, reads, resets, ticks, pixels, does, called}
+use Rattle.hd153108.specs.Hd153108.{accessRefusals, Call, writes, reads, resets, ticks, pixels, looks, does, called}
 use Rattle.hd153108.specs.Hd153108.{refuse, accept, outcome}
 use Rattle.hd153108.proofs.InRange.{in-range, ranges-hold, not-short}
 
@@ -94,6 +94,7 @@ selectOf (reads select) = select
 selectOf resets = 8
 selectOf ticks = 8
 selectOf (pixels enable number byte) = 8
+selectOf (looks place) = 8
 
 abbrev pub atSelect : ℕ → Call → Call
 atSelect j (writes select byte) = writes j byte
@@ -101,6 +102,7 @@ atSelect j (reads select) = reads j
 atSelect j resets = resets
 atSelect j ticks = ticks
 atSelect j (pixels enable number byte) = pixels enable number byte
+atSelect j (looks place) = looks place
 
 module _ (c : Chip) (given : List Bound) (select : ℕ) (done : Outcome Chip) where
   first-stops : {n : ℕ} → n ≡ tried c → (n ≡ 0 → ⊥)

@@ -24,7 +24,7 @@ use Rattle.hd153108.specs.Hd153108.{readMask, blinkMask, overlayControl,
 use Rattle.hd153108.specs.Hd153108.{withTable, withState, next, latched, stepped, stored, dataWrite}
 use Rattle.hd153108.specs.Hd153108.{unreserved, reservedBits, period, ticked, written, answers, InRange, ranges}
 use Rattle.hd153108.specs.Hd153108.{lengths, accessRefusals, Call, writes, reads, resets, ticks, pixels}
-use Rattle.hd153108.specs.Hd153108.{refusals, does, called}
+use Rattle.hd153108.specs.Hd153108.{looks, isLook, refusals, does, called}
 use Rattle.hd153108.proofs.InRange.{lengths-hold}
 
 -- ---- What is written to the overlay control
@@ -123,6 +123,7 @@ does-keeps-range (reads select) c g h = answers-in-range (registerAt select) c g
 does-keeps-range resets c g h = reset-in-range c (lengths-hold c g)
 does-keeps-range ticks c g h = let below = ticked-below (c .state .clock) in search
 does-keeps-range (pixels enable number byte) c g h = g
+does-keeps-range (looks place) c g h = g
 
 pub called-keeps-range : Keeps called InRange
 called-keeps-range k c g = called-holds refusals does k c InRange g (does-keeps-range k c g)
@@ -159,6 +160,7 @@ does-accepts (reads select) c = answers-only (registerAt select) c .0
 does-accepts resets c = refl
 does-accepts ticks c = refl
 does-accepts (pixels enable number byte) c = refl
+does-accepts (looks place) c = refl
 
 pub read-keeps-tables : (select : ℕ) (c : Chip) → SameTables c (called (reads select) c .left)
 read-keeps-tables select c =
@@ -174,7 +176,7 @@ pub register-reads-stay : (c : Chip)
 unfolding answers
 register-reads-stay c = (refl, refl, refl, refl)
 
--- ---- A pixel leaves its chip: no other call can tell whether one was asked for
+-- ---- A pixel leaves its chip, and so does a look: no other call can tell whether one was asked for
 
 abbrev pub isPixel : Call → Bool
 isPixel (writes select byte) = false
@@ -182,6 +184,7 @@ isPixel (reads select) = false
 isPixel resets = false
 isPixel ticks = false
 isPixel (pixels enable number byte) = true
+isPixel (looks place) = false
 
 pixel-stays : (k : Call) (c : Chip) → isPixel k ≡ true → called k c .left ≡ c
 pixel-stays (pixels enable number byte) c e = called-holds refusals does _ c (λ (d : Chip). d ≡ c) refl (λ h. refl)
@@ -189,6 +192,18 @@ pixel-stays (writes select byte) c e = clash (sym e)
 pixel-stays (reads select) c e = clash (sym e)
 pixel-stays resets c e = clash (sym e)
 pixel-stays ticks c e = clash (sym e)
+pixel-stays (looks place) c e = clash (sym e)
 
 pub pixels-unnoticed : Unnoticed called isPixel
 pixels-unnoticed = unnoticed called isPixel pixel-stays
+
+look-stays : (k : Call) (c : Chip) → isLook k ≡ true → called k c .left ≡ c
+look-stays (writes select byte) c e = clash (sym e)
+look-stays (reads select) c e = clash (sym e)
+look-stays resets c e = clash (sym e)
+look-stays ticks c e = clash (sym e)
+look-stays (pixels enable number byte) c e = clash (sym e)
+look-stays (looks place) c e = called-holds refusals does _ c (λ (d : Chip). d ≡ c) refl (λ h. refl)
+
+pub looks-unnoticed : Unnoticed called isLook
+looks-unnoticed = unnoticed called isLook look-stays

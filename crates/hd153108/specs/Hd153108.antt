@@ -14,6 +14,7 @@ use Rattle.vocabulary.specs.Range.{Bound, below, equal, clear, fails}
 use Rattle.vocabulary.specs.Refusal.{Row, _when_, lentLength, outOfRange, noAccess, refusalOf}
 use Rattle.vocabulary.specs.Outcome.{Outcome, accepting, notReached, answered}
 use Rattle.vocabulary.specs.Component.{Component, red, green, blue, componentAt, put, colourWord}
+use Rattle.vocabulary.specs.Look.{Block, _has_, _holds_, found, lookRefusals, looked}
 use Rattle.vocabulary.specs.Face.{calledBy}
 use Rattle.hd153108.specs.declared.Clock.{Clock}
 use Rattle.hd153108.specs.declared.State.{State}
@@ -331,6 +332,24 @@ pub record InRange (c : Chip) : Type 0 where
   pub timing : c .state .clock .timing < 256
   pub position : c .state .clock .position < period (c .state .clock .timing)
 
+-- ---- The places of a look (request P5): registers, pointer, latches and blink position, then each table byte
+
+abbrev pub lookPlaces : Chip → List Block
+lookPlaces c =
+    let s = c .state in
+    (0x0 has s .address) ∷
+    (0x1 has s .pointer) ∷
+    (0x2 has s .red) ∷
+    (0x3 has s .green) ∷
+    (0x4 has s .readmask) ∷
+    (0x5 has s .blinkmask) ∷
+    (0x6 has s .control) ∷
+    (0x7 has s .clock .timing) ∷
+    (0x8 has s .clock .position) ∷
+    (0x100 holds c .overlays) ∷
+    (0x1000 holds c .colours) ∷
+    []
+
 -- ---- When a call is refused
 
 -- a select that has no register, or the reserved one
@@ -411,6 +430,16 @@ pub data Call : Type 0 where
   ticks : Call
   -- overlay enable, overlay number and byte
   pixels : ℕ → ℕ → ℕ → Call
+  -- place
+  looks : ℕ → Call
+
+abbrev pub isLook : Call → Bool
+isLook (writes select byte) = false
+isLook (reads select) = false
+isLook resets = false
+isLook ticks = false
+isLook (pixels enable number byte) = false
+isLook (looks place) = true
 
 -- a reset reads no part of the state, so it is never refused
 abbrev pub refusals : Call → Chip → List Row
@@ -419,6 +448,7 @@ refusals (reads select) c = readRefusals select c
 refusals resets c = []
 refusals ticks c = tickRefusals (c .state .clock)
 refusals (pixels enable number byte) c = pixelRefusals enable number c
+refusals (looks place) c = lookRefusals (short c) (outside c) (found (lookPlaces c) place)
 
 -- a reset keeps the tables, since it is lent none (ruling); a pixel answers the shown colour and changes nothing
 abbrev pub does : Call → Chip → Outcome Chip
@@ -427,6 +457,7 @@ does (reads select) c = answers (registerAt select) c
 does resets c = accepting 0 0 (withState zeroed c)
 does ticks c = accepting 0 0 (withClock (ticked (c .state .clock)) c)
 does (pixels enable number byte) c = accepting (colourOf (shown enable number byte c)) 0 c
+does (looks place) c = looked (found (lookPlaces c) place) c
 
 abbrev pub called : Call → Chip → Outcome Chip
 called k c = calledBy refusals does k c

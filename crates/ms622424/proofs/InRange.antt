@@ -11,7 +11,7 @@ use Rattle.vocabulary.proofs.Range.{holds-passes, passes-holds, fails-right, cl
 use Rattle.vocabulary.proofs.Refusal.{standing-clear}
 use Rattle.vocabulary.proofs.Call.{tried-first}
 use Rattle.ms622424.specs.Ms622424.{Chip, lengths, short, ranges, outside, InRange, Call, writes, reads, blanks}
-use Rattle.ms622424.specs.Ms622424.{pixels, signals, resets, refusals, does, called}
+use Rattle.ms622424.specs.Ms622424.{pixels, signals, resets, looks, refusals, does, called}
 
 pub in-range : (c : Chip) → Holds (lengths c) → Holds (ranges c) → InRange c
 in-range c l r = search
@@ -40,6 +40,7 @@ lentMap (blanks slots) = true
 lentMap (pixels mode word) = true
 lentMap (signals s) = false
 lentMap resets = false
+lentMap (looks place) = true
 
 outside-due : (k : Call) (c : Chip) → lentMap k ≡ true → outside c ≡ true → due (refusals k c) outOfRange ≡ true
 outside-due (writes select byte) c e = fails-right (below byte 256 ∷ []) (ranges c)
@@ -48,6 +49,7 @@ outside-due (blanks slots) c e = fails-right (below slots 65536 ∷ []) (ranges 
 outside-due (pixels mode word) c e = fails-right (below mode 4 ∷ below word (2 ^ 24) ∷ []) (ranges c)
 outside-due (signals s) c e = clash (sym e)
 outside-due resets c e = clash (sym e)
+outside-due (looks place) c e = λ f. f
 
 pub tried : (k : Call) (c : Chip) (n : ℕ) → lentMap k ≡ true → due (refusals k c) lentLength ≡ short c
     → n ≡ refusalOf (standing (short c) (outside c)) → (n ≡ 0 → ⊥) → refusing n 0 c ≡ called k c

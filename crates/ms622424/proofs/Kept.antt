@@ -1,4 +1,5 @@
--- A chip in range stays in range, whatever the call; pixels and timing signals leave it as it is. Assumes nothing.
+-- A chip in range stays in range, whatever the call; pixels, timing signals and looks leave it as it is. Assumes
+-- nothing.
 use Prim.Native.Nat.{ℕ, _^_, _<_}
 use mathlib.Core.Path.{_≡_, refl, sym, subst, _∙_}
 use mathlib.Core.Bool.{Bool, true, false}
@@ -20,7 +21,7 @@ use Rattle.ms622424.specs.Ms622424.{ranges, InRange, selected, stepped, 
 use Rattle.ms622424.specs.Ms622424.{roomMade, taken, written, bufferStepped, answers, fresh, registerAt}
 use Rattle.ms622424.specs.Ms622424.{Register, addressLow, addressHigh, palette, command, status, buffer}
 use Rattle.ms622424.specs.Ms622424.{revision, initialization, none, Call, writes, reads, blanks, pixels}
-use Rattle.ms622424.specs.Ms622424.{signals, resets, refusals, does, called}
+use Rattle.ms622424.specs.Ms622424.{signals, resets, looks, isLook, refusals, does, called}
 use Rattle.ms622424.proofs.InRange.{in-range}
 use Rattle.ms622424.proofs.Moves.{all-stored-length, moves-are, room-cases, room-space}
 
@@ -108,6 +109,7 @@ called-keeps-range (signals s) c h = called-holds refusals does (signals s) c In
 called-keeps-range resets c h =
     called-holds refusals does resets c InRange h
     (λ t. fresh-in-range c (h .places) (h .size) (passes-holds (identRanges (c .ident)) (t .1 .0)))
+called-keeps-range (looks place) c h = called-holds refusals does (looks place) c InRange h (λ t. h)
 
 -- ---- the calls that no other call can tell from not being made
 abbrev pub isPixel : Call → Bool
@@ -117,6 +119,7 @@ isPixel (blanks slots) = false
 isPixel (pixels mode word) = true
 isPixel (signals s) = false
 isPixel resets = false
+isPixel (looks place) = false
 
 abbrev pub isSignals : Call → Bool
 isSignals (writes select byte) = false
@@ -125,6 +128,7 @@ isSignals (blanks slots) = false
 isSignals (pixels mode word) = false
 isSignals (signals s) = true
 isSignals resets = false
+isSignals (looks place) = false
 
 pixel-stays : (k : Call) (c : Chip) → isPixel k ≡ true → called k c .left ≡ c
 pixel-stays (writes select byte) c e = clash (sym e)
@@ -134,6 +138,7 @@ pixel-stays (pixels mode word) c e =
     called-holds refusals does (pixels mode word) c (λ (d : Chip). d ≡ c) refl (λ t. refl)
 pixel-stays (signals s) c e = clash (sym e)
 pixel-stays resets c e = clash (sym e)
+pixel-stays (looks place) c e = clash (sym e)
 
 signals-stay : (k : Call) (c : Chip) → isSignals k ≡ true → called k c .left ≡ c
 signals-stay (writes select byte) c e = clash (sym e)
@@ -142,12 +147,25 @@ signals-stay (blanks slots) c e = clash (sym e)
 signals-stay (pixels mode word) c e = clash (sym e)
 signals-stay (signals s) c e = called-holds refusals does (signals s) c (λ (d : Chip). d ≡ c) refl (λ t. refl)
 signals-stay resets c e = clash (sym e)
+signals-stay (looks place) c e = clash (sym e)
+
+pub look-stays : (k : Call) (c : Chip) → isLook k ≡ true → called k c .left ≡ c
+look-stays (writes select byte) c e = clash (sym e)
+look-stays (reads select) c e = clash (sym e)
+look-stays (blanks slots) c e = clash (sym e)
+look-stays (pixels mode word) c e = clash (sym e)
+look-stays (signals s) c e = clash (sym e)
+look-stays resets c e = clash (sym e)
+look-stays (looks place) c e = called-holds refusals does (looks place) c (λ (d : Chip). d ≡ c) refl (λ t. refl)
 
 pub pixels-unnoticed : Unnoticed called isPixel
 pixels-unnoticed = unnoticed called isPixel pixel-stays
 
 pub signals-unnoticed : Unnoticed called isSignals
 signals-unnoticed = unnoticed called isSignals signals-stay
+
+pub looks-unnoticed : Unnoticed called isLook
+looks-unnoticed = unnoticed called isLook look-stays
 
 -- AN ACCEPTED CALL leaves the lent places as they should be
 abbrev pub InOrder : Chip → Type 0
@@ -178,6 +196,9 @@ accepted-in-order resets c a =
     let t = called-clear refusals does resets c a in
     subst (λ (o : Outcome Chip). InOrder (o .left)) (sym (called-does refusals does resets c a))
     (passes-holds (queueLengths c) (t .0) .0, refl)
+accepted-in-order (looks place) c a =
+    let t = called-clear refusals does (looks place) c a in
+    in-order (looks place) c (passes-holds _ (t .0)) (passes-holds (ranges c) (t .1 .0))
 
 -- ---- What is done where nothing is refused gives no refusal itself
 access-accepts : (r : Register) (byte : ℕ) (c : Chip) → (written r byte c .refusal ≡ 0) × (answers r c .refusal ≡ 0)
@@ -199,3 +220,4 @@ does-accepts (blanks slots) c = refl
 does-accepts (pixels mode word) c = refl
 does-accepts (signals s) c = refl
 does-accepts resets c = refl
+does-accepts (looks place) c = refl

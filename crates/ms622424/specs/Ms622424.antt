@@ -14,6 +14,7 @@ use Rattle.vocabulary.specs.Outcome.{Outcome, accepting, notReached}
 use Rattle.vocabulary.specs.Component.{Component, red, green, blue, componentAt, part, oneOf, put, colourWord}
 use Rattle.vocabulary.specs.Every.{every}
 use Rattle.vocabulary.specs.Line.{line}
+use Rattle.vocabulary.specs.Look.{Block, _has_, _holds_, found, lookRefusals, looked}
 use Rattle.vocabulary.specs.Face.{calledBy}
 use Rattle.ms622424.specs.declared.Port.{Port}
 use Rattle.ms622424.specs.declared.Control.{Control}
@@ -362,6 +363,22 @@ fresh c = chip (port 0 0 0 0) (control 3 0) (c .ident) [] (c .map) (record { pla
 abbrev pub resetRefusals : Chip → List Row
 resetRefusals c = (lentLength when shortQueue c) ∷ (outOfRange when fails (identRanges (c .ident))) ∷ []
 
+-- ---- The places of a look (request P5): the registers, how many colours wait, and each byte of the map as stored
+
+abbrev pub lookPlaces : Chip → List Block
+lookPlaces c =
+    (0x0 has c .port .address) ∷
+    (0x1 has c .port .counter) ∷
+    (0x2 has c .port .red) ∷
+    (0x3 has c .port .green) ∷
+    (0x4 has c .control .command) ∷
+    (0x5 has c .control .readmode) ∷
+    (0x6 has c .ident .revision) ∷
+    (0x7 has c .ident .board) ∷
+    (0x8 has length (c .waiting)) ∷
+    (0x10000 holds c .map) ∷
+    []
+
 -- ---- The face: all calls, when each is refused, and what it does where it is accepted
 
 pub data Call : Type 0 where
@@ -371,6 +388,17 @@ pub data Call : Type 0 where
   pixels : ℕ → ℕ → Call
   signals : ℕ → Call
   resets : Call
+  -- place
+  looks : ℕ → Call
+
+abbrev pub isLook : Call → Bool
+isLook (writes select byte) = false
+isLook (reads select) = false
+isLook (blanks slots) = false
+isLook (pixels mode word) = false
+isLook (signals s) = false
+isLook resets = false
+isLook (looks place) = true
 
 abbrev pub refusals : Call → Chip → List Row
 refusals (writes select byte) c = writeRefusals select byte c
@@ -379,6 +407,7 @@ refusals (blanks slots) c = blankRefusals slots c
 refusals (pixels mode word) c = pixelRefusals mode word c
 refusals (signals s) c = signalRefusals s c
 refusals resets c = resetRefusals c
+refusals (looks place) c = lookRefusals (short c) (outside c) (found (lookPlaces c) place)
 
 abbrev pub does : Call → Chip → Outcome Chip
 does (writes select byte) c = written (registerAt select) byte c
@@ -387,6 +416,7 @@ does (blanks slots) c = blanked slots c
 does (pixels mode word) c = shown mode word c
 does (signals s) c = accepting (pipeOut (c .control .command) s) 0 c
 does resets c = accepting 0 0 (fresh c)
+does (looks place) c = looked (found (lookPlaces c) place) c
 
 abbrev pub called : Call → Chip → Outcome Chip
 called k c = calledBy refusals does k c

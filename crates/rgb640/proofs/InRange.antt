@@ -20,7 +20,7 @@ use Rattle.rgb640.specs.Rgb640.{colour, fetchesEntry, threeBytes, transf
 use Rattle.rgb640.specs.Rgb640.{paletteTaken, paletteTold, Space, updateControl, paletteWrite, paletteRead}
 use Rattle.rgb640.specs.Rgb640.{nowhere, spaceOf, Register, indexLow, indexHigh, indexData, notServed, registerAt}
 use Rattle.rgb640.specs.Rgb640.{at, served, wrote, dataWritten, told, dataRead, writes, reads, resets, refusals}
-use Rattle.rgb640.specs.Rgb640.{does, called}
+use Rattle.rgb640.specs.Rgb640.{looks, does, called}
 use Rattle.rgb640.proofs.Index.{space-holds}
 use Rattle.rgb640.proofs.Order.{steps, stays}
 
@@ -126,3 +126,4 @@ called-keeps-range (writes port b) c r =
 called-keeps-range (reads port) c r =
     called-holds refusals does (reads port) c InRange r (λ none. told-range c r (registerAt port))
 called-keeps-range resets c r = called-holds refusals does resets c InRange r (λ none. omega arith)
+called-keeps-range (looks place) c r = called-holds refusals does (looks place) c InRange r (λ none. r)

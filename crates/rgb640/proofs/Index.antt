@@ -5,12 +5,12 @@ use mathlib.Core.Bool.{true}
 use mathlib.Core.List.{List, [], _∷_}
 use native.Mathlib.Omega.{arith}
 use borrow.Author.Tests.{le-leb, leb-true}
-use Rattle.vocabulary.specs.Range.{meets}
+use Rattle.vocabulary.specs.Range.{within, meets}
 use Rattle.vocabulary.proofs.Range.{holds-meets, meets-holds, clash}
 use Rattle.vocabulary.proofs.Choice.{picks-first, picks-second, cases}
 use Rattle.rgb640.specs.declared.State.{State}
 use Rattle.rgb640.specs.Rgb640.{Space, updateControl, paletteWrite, paletteRead, spaces, nowhere}
-use Rattle.rgb640.specs.Rgb640.{within, among, spaceOf, fetchesEntry, isAgainst, notServed, registerAt}
+use Rattle.rgb640.specs.Rgb640.{among, spaceOf, fetchesEntry, isAgainst, notServed, registerAt}
 
 -- ---- Any table of spaces
 abbrev pub Lies : ℕ → Space → Type 0

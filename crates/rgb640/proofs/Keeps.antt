@@ -12,7 +12,7 @@ use Rattle.vocabulary.proofs.Run.{unnoticed}
 use Rattle.rgb640.specs.Rgb640.{Chip, offset, threeBytes, follows, taken, paletteTaken, Space, updateControl}
 use Rattle.rgb640.specs.Rgb640.{paletteWrite, paletteRead, nowhere, spaceOf, Register, indexLow, indexHigh}
 use Rattle.rgb640.specs.Rgb640.{indexData, notServed, registerAt, served, dataWritten, wrote, told, answers, Call}
-use Rattle.rgb640.specs.Rgb640.{writes, reads, resets, refusals, does, called}
+use Rattle.rgb640.specs.Rgb640.{writes, reads, resets, looks, isLook, refusals, does, called}
 use Rattle.rgb640.proofs.Index.{space-holds}
 
 -- ---- What is done where nothing is refused gives no refusal itself
@@ -20,8 +20,9 @@ pub does-accepts : (k : Call) (c : Chip) → does k c .refusal ≡ 0
 does-accepts (writes port b) c = refl
 does-accepts (reads port) c = refl
 does-accepts resets c = refl
+does-accepts (looks place) c = refl
 
--- ---- Reads of ports 4 and 5 leave their chip, so that no other call can tell whether they were made
+-- ---- Reads of ports 4 and 5 leave their chip, and so do looks: no other call can tell whether they were made
 abbrev pub isIndex : Register → Bool
 isIndex indexLow = true
 isIndex indexHigh = true
@@ -32,6 +33,7 @@ abbrev pub isIndexRead : Call → Bool
 isIndexRead (writes port b) = false
 isIndexRead (reads port) = isIndex (registerAt port)
 isIndexRead resets = false
+isIndexRead (looks place) = false
 
 index-read-stays : (r : Register) (c : Chip) → isIndex r ≡ true → answers r c .left ≡ c
 unfolding told
@@ -46,9 +48,19 @@ stays (reads port) c e =
     called-holds refusals does (reads port) c (λ (d : Chip). d ≡ c) refl
     (λ none. index-read-stays (registerAt port) c e)
 stays resets c e = clash (sym e)
+stays (looks place) c e = clash (sym e)
 
 pub index-reads-unnoticed : Unnoticed called isIndexRead
 index-reads-unnoticed = unnoticed called isIndexRead stays
+
+look-stays : (k : Call) (c : Chip) → isLook k ≡ true → called k c .left ≡ c
+look-stays (writes port b) c e = clash (sym e)
+look-stays (reads port) c e = clash (sym e)
+look-stays resets c e = clash (sym e)
+look-stays (looks place) c e = called-holds refusals does _ c (λ (d : Chip). d ≡ c) refl (λ none. refl)
+
+pub looks-unnoticed : Unnoticed called isLook
+looks-unnoticed = unnoticed called isLook look-stays
 
 -- ---- The table
 -- a read changes no number of it, nor does a reset

@@ -6,14 +6,15 @@ use Prim.Native.Nat.{ℕ, _+_, _-_, _*_, _/_, _%_, _<_}
 use mathlib.Core.Path.{_≡_}
 use mathlib.Core.Bool.{Bool, true, false, _&&_}
 use mathlib.Core.List.{List, [], _∷_, _++_}
-use lib.Dec.{leb, ltb, eqb}
+use lib.Dec.{ltb, eqb}
 use lib.ListN.{length, getD}
 use Rattle.vocabulary.specs.Choice.{pick}
 use Rattle.vocabulary.specs.Line.{line}
-use Rattle.vocabulary.specs.Range.{Bound, below, equal, tested, meets, fails}
+use Rattle.vocabulary.specs.Range.{Bound, below, equal, within, meets, fails}
 use Rattle.vocabulary.specs.Refusal.{Row, _when_, lentLength, outOfRange, noAccess, noIndex, refusalOf, standing}
 use Rattle.vocabulary.specs.Outcome.{Outcome, accepting}
 use Rattle.vocabulary.specs.Component.{Component, red, green, blue, oneOf, put}
+use Rattle.vocabulary.specs.Look.{Block, _has_, _holds_, found, lookRefusals, looked}
 use Rattle.vocabulary.specs.Face.{calledBy}
 use Rattle.expand.specs.Expand.{ten}
 use Rattle.rgb640.specs.declared.Colour.{Colour}
@@ -194,10 +195,6 @@ spaces = updateControl ∷ paletteWrite ∷ paletteRead ∷ []
 unfoldable pub nowhere : Space
 nowhere = space 0 0 against against fetchesNothing
 
--- from a number on, and so many
-abbrev pub within : ℕ → ℕ → ℕ → List Bound
-within first count n = tested (leb first n) ∷ below n (first + count) ∷ []
-
 abbrev pub among : List Space → ℕ → Space
 among [] i = nowhere
 among (row ∷ rows) i = pick (meets (within (row .first) (row .count) i)) row (among rows i)
@@ -248,6 +245,21 @@ answers register c = accepting (told register c .0) 0 (chip (told register c .1)
 -- ---- The reset zeroes the state and keeps the table (ruling)
 abbrev pub zeroed : State
 zeroed = state 0 0 0 0 (colour 0 0 0) 0
+
+-- ---- The places of a look (request P5): the state, register 0x000E in it, then each number of the table as lent
+abbrev pub lookPlaces : Chip → List Block
+lookPlaces c =
+    let s = c .state in
+    (0x0 has s .index) ∷
+    (0x1 has s .place) ∷
+    (0x2 has s .red) ∷
+    (0x3 has s .green) ∷
+    (0x4 has s .fetched .red) ∷
+    (0x5 has s .fetched .green) ∷
+    (0x6 has s .fetched .blue) ∷
+    (0x7 has s .update) ∷
+    (0x10000 holds c .table) ∷
+    []
 
 -- ---- What a call asks (document 01)
 -- 1: 1,024 entries of three numbers
@@ -341,16 +353,26 @@ pub data Call : Type 0 where
   -- port
   reads : ℕ → Call
   resets : Call
+  -- place
+  looks : ℕ → Call
+
+abbrev pub isLook : Call → Bool
+isLook (writes port byte) = false
+isLook (reads port) = false
+isLook resets = false
+isLook (looks place) = true
 
 abbrev pub refusals : Call → Chip → List Row
 refusals (writes port byte) c = writeRefusals port byte c
 refusals (reads port) c = readRefusals port c
 refusals resets c = resetRefusals
+refusals (looks place) c = lookRefusals (short c) (outside c) (found (lookPlaces c) place)
 
 abbrev pub does : Call → Chip → Outcome Chip
 does (writes port byte) c = written (registerAt port) byte c
 does (reads port) c = answers (registerAt port) c
 does resets c = accepting 0 0 (chip zeroed (c .table))
+does (looks place) c = looked (found (lookPlaces c) place) c
 
 abbrev pub called : Call → Chip → Outcome Chip
 called k c = calledBy refusals does k c
