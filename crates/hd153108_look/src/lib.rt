@@ -5,7 +5,7 @@
 use hd153108::State;
 use hd153108_range::standing;
 use look::refused;
-use look::seen;
+use look::seen_byte;
 use vocabulary::Looked;
 ghost use Prim.Native.Nat.{ℕ};
 ghost use mathlib.Core.Path.{_≡_};
@@ -18,15 +18,15 @@ fn state_look(s: State, place: u8) -> Looked
     ensures { λ r. ⌜ ((cs os : List ℕ) → r ≡ lookAnswer (found (lookPlaces (chip s cs os)) place)) ⌝ }
 {
     match place {
-        0 => seen(s.address as u16),
-        1 => seen(s.pointer as u16),
-        2 => seen(s.red as u16),
-        3 => seen(s.green as u16),
-        4 => seen(s.readmask as u16),
-        5 => seen(s.blinkmask as u16),
-        6 => seen(s.control as u16),
-        7 => seen(s.clock.timing as u16),
-        8 => seen(s.clock.position as u16),
+        0 => seen_byte(s.address),
+        1 => seen_byte(s.pointer),
+        2 => seen_byte(s.red),
+        3 => seen_byte(s.green),
+        4 => seen_byte(s.readmask),
+        5 => seen_byte(s.blinkmask),
+        6 => seen_byte(s.control),
+        7 => seen_byte(s.clock.timing),
+        8 => seen_byte(s.clock.position),
         _ => refused(3),
     }
 }
@@ -41,10 +41,17 @@ pub extern "C" fn zk_a_look(s: State, place: u32, colours: &[u8], overlays: &[u8
     if refusal != 0 {
         return refused(refusal);
     }
-    match place {
-        0x0..=0xFF => state_look(s, place as u8),
-        0x100..=0x10B => seen(overlays[(place - 0x100) as usize] as u16),
-        0x1000..=0x12FF => seen(colours[(place - 0x1000) as usize] as u16),
-        _ => refused(3),
+    if place < 0x100 {
+        return state_look(s, place as u8);
     }
+    if place < 0x10C {
+        return seen_byte(overlays[(place - 0x100) as usize]);
+    }
+    if place < 0x1000 {
+        return refused(3);
+    }
+    if place < 0x1300 {
+        return seen_byte(colours[(place - 0x1000) as usize]);
+    }
+    refused(3)
 }

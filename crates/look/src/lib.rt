@@ -16,6 +16,13 @@ pub fn seen(value: u16) -> Looked
     }
 }
 
+// The same of a byte.
+pub fn seen_byte(value: u8) -> Looked
+    ensures { λ r. ⌜ r ≡ lookAnswer (there value) ⌝ }
+{
+    seen(value as u16)
+}
+
 // A refused look: no number.
 pub fn refused(refusal: u8) -> Looked
     ensures { λ r. ⌜ r ≡ unseen refusal ⌝ }

@@ -5,6 +5,7 @@
 // specs/Ms622424.antt. Not modelled: as there.
 use look::refused;
 use look::seen;
+use look::seen_byte;
 use ms622424_places::State;
 use ms622424_range::standing_tables;
 use vocabulary::Looked;
@@ -23,14 +24,14 @@ fn state_look(s: State, place: u16) -> Looked
 {
     match place {
         0 => seen(s.port.address),
-        1 => seen(s.port.counter as u16),
-        2 => seen(s.port.red as u16),
-        3 => seen(s.port.green as u16),
-        4 => seen(s.control.command as u16),
-        5 => seen(s.control.readmode as u16),
-        6 => seen(s.ident.revision as u16),
-        7 => seen(s.ident.board as u16),
-        8 => seen(s.fifo.waiting as u16),
+        1 => seen_byte(s.port.counter),
+        2 => seen_byte(s.port.red),
+        3 => seen_byte(s.port.green),
+        4 => seen_byte(s.control.command),
+        5 => seen_byte(s.control.readmode),
+        6 => seen_byte(s.ident.revision),
+        7 => seen_byte(s.ident.board),
+        8 => seen_byte(s.fifo.waiting),
         _ => refused(3),
     }
 }
@@ -45,9 +46,11 @@ pub extern "C" fn zk_b_look(s: State, place: u32, queue: &[u64], map: &[u8]) -> 
     if refusal != 0 {
         return refused(refusal);
     }
-    match place {
-        0x0..=0xFFFF => state_look(s, place as u16),
-        0x10000..=0x15FFF => seen(map[(place - 0x10000) as usize] as u16),
-        _ => refused(3),
+    if place < 0x10000 {
+        return state_look(s, place as u16);
     }
+    if place < 0x16000 {
+        return seen_byte(map[(place - 0x10000) as usize]);
+    }
+    refused(3)
 }

@@ -5,6 +5,7 @@
 // Not modelled: as there.
 use look::refused;
 use look::seen;
+use look::seen_byte;
 use rgb640::State;
 use rgb640_range::standing_of;
 use vocabulary::Looked;
@@ -20,13 +21,13 @@ fn state_look(s: State, place: u16) -> Looked
 {
     match place {
         0 => seen(s.index),
-        1 => seen(s.place as u16),
+        1 => seen_byte(s.place),
         2 => seen(s.red),
         3 => seen(s.green),
         4 => seen(s.fetched.red),
         5 => seen(s.fetched.green),
         6 => seen(s.fetched.blue),
-        7 => seen(s.update as u16),
+        7 => seen_byte(s.update),
         _ => refused(3),
     }
 }
@@ -40,9 +41,11 @@ pub extern "C" fn zk_c_look(s: State, place: u32, table: &[u16]) -> Looked
     if refusal != 0 {
         return refused(refusal);
     }
-    match place {
-        0x0..=0xFFFF => state_look(s, place as u16),
-        0x10000..=0x10BFF => seen(table[(place - 0x10000) as usize]),
-        _ => refused(3),
+    if place < 0x10000 {
+        return state_look(s, place as u16);
     }
+    if place < 0x10C00 {
+        return seen(table[(place - 0x10000) as usize]);
+    }
+    refused(3)
 }

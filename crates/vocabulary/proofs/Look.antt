@@ -2,53 +2,81 @@
 -- nothing.
 use Prim.Native.Nat.{ℕ, _+_, _-_, _<_, _≤_}
 use mathlib.Core.Path.{_≡_, refl, sym, ap, _∙_}
-use mathlib.Core.Bool.{Bool}
+use mathlib.Core.Bool.{Bool, true}
 use mathlib.Core.List.{List, [], _∷_, _++_}
 use native.Mathlib.Omega.{arith}
 use borrow.Author.Tests.{le-leb, leb-true}
+use lib.Dec.{leb}
 use lib.ListN.{length, getD}
+use Rattle.vocabulary.specs.Every.{every}
 use Rattle.vocabulary.specs.Refusal.{lentLength, outOfRange, noAccess, refusalOf, standing}
 use Rattle.vocabulary.specs.Outcome.{Outcome, refusing, answered}
 use Rattle.vocabulary.specs.declared.Looked.{Looked}
-use Rattle.vocabulary.specs.Look.{Block, Found, there, nowhere, found, lookRefusals, looked, looking, lookAnswer}
-use Rattle.vocabulary.specs.Look.{unseen}
+use Rattle.vocabulary.specs.Look.{Block, Found, there, nowhere, found, lookRefusals, looked, looking}
+use Rattle.vocabulary.specs.Look.{unseen, lookAnswer}
 use Rattle.vocabulary.proofs.Choice.{picks-first, picks-second}
-use Rattle.vocabulary.proofs.Range.{holds-meets, not-meets}
+use Rattle.vocabulary.proofs.Range.{holds-meets, not-meets, both}
 use Rattle.vocabulary.proofs.Refusal.{standing-clear}
 use Rattle.vocabulary.proofs.Call.{tried-first, stops, goes-on}
 
 -- ---- What is found at a place
 
--- a place that a row has not
-abbrev pub Beside : ℕ → Block → Type 0
-Beside place b = b .from ≤ place → place < b .from + length (b .numbers) → ⊥
+-- rows that end before a place, as a test; and rows that have not a place
+unfoldable pub ends : List Block → ℕ → Bool
+ends rows n = every (λ (b : Block). leb (b .from + length (b .numbers)) n) rows
 
-abbrev pub AllBeside : ℕ → List Block → Type 0
-AllBeside place [] = Unit
-AllBeside place (b ∷ bs) = Beside place b × AllBeside place bs
+abbrev pub Beside : ℕ → List Block → Type 0
+Beside place [] = Unit
+Beside place (b ∷ bs) = (b .from ≤ place → place < b .from + length (b .numbers) → ⊥) × Beside place bs
 
-pub found-here : (b : Block) (bs : List Block) (place i : ℕ) → place ≡ b .from + i → i < length (b .numbers)
+-- one number's row
+pub beside-one : {place n : ℕ} → (place ≡ n → ⊥) → n ≤ place → place < n + 1 → ⊥
+beside-one h l u = h (omega arith)
+
+found-in : (b : Block) (bs : List Block) (place i : ℕ) → place ≡ b .from + i → i < length (b .numbers)
     → found (b ∷ bs) place ≡ there (getD (b .numbers) i 0)
 unfolding found
-found-here b bs place i e h =
+found-in b bs place i e h =
     let low = le-leb (b .from) place (omega arith) in
     let same : place - b .from ≡ i = omega arith in
     picks-first _ _ (holds-meets _ (low, (omega arith, tt))) ∙ ap (λ (j : ℕ). there (getD (b .numbers) j 0)) same
 
-found-beside : (b : Block) (bs : List Block) (place : ℕ) → Beside place b → found (b ∷ bs) place ≡ found bs place
+found-beside : (b : Block) (bs : List Block) (place : ℕ)
+    → (b .from ≤ place → place < b .from + length (b .numbers) → ⊥) → found (b ∷ bs) place ≡ found bs place
 unfolding found
-found-beside b bs place h =
-    picks-second _ _ (not-meets _ (λ g. h (leb-true _ _ (g .0)) (g .1 .0)))
+found-beside b bs place h = picks-second _ _ (not-meets _ (λ g. h (leb-true _ _ (g .0)) (g .1 .0)))
 
--- rows that have not the place are passed
-pub found-past : (rows bs : List Block) (place : ℕ) → AllBeside place rows → found (rows ++ bs) place ≡ found bs place
-found-past [] bs place h = refl
-found-past (b ∷ rows) bs place h = found-beside b (rows ++ bs) place (h .0) ∙ found-past rows bs place (h .1)
+-- rows that end before the place are passed
+found-past : (rows bs : List Block) (n place : ℕ) → ends rows n ≡ true → n ≤ place
+    → found (rows ++ bs) place ≡ found bs place
+unfolding ends every
+found-past [] bs n place e h = refl
+found-past (b ∷ rows) bs n place e h =
+    let (first, rest) = both (leb (b .from + length (b .numbers)) n) _ e in
+    let past = leb-true (b .from + length (b .numbers)) n first in
+    found-beside b (rows ++ bs) place (λ l u. omega arith) ∙ found-past rows bs n place rest h
 
-pub found-nowhere : (bs : List Block) (place : ℕ) → AllBeside place bs → found bs place ≡ nowhere
+-- and rows that have it not
+found-behind : (more bs : List Block) (place : ℕ) → Beside place more → found (more ++ bs) place ≡ found bs place
+found-behind [] bs place h = refl
+found-behind (b ∷ more) bs place h = found-beside b (more ++ bs) place (h .0) ∙ found-behind more bs place (h .1)
+
+pub found-none : (bs : List Block) (place : ℕ) → Beside place bs → found bs place ≡ nowhere
 unfolding found
-found-nowhere [] place h = refl
-found-nowhere (b ∷ bs) place h = found-beside b bs place (h .0) ∙ found-nowhere bs place (h .1)
+found-none [] place h = refl
+found-none (b ∷ bs) place h = found-beside b bs place (h .0) ∙ found-none bs place (h .1)
+
+-- behind rows that end before it, and more that have it not: in the next row, or in none
+module _ (rows more : List Block) (n place : ℕ) (past : ends rows n ≡ true) (h : n ≤ place) (out : Beside place more)
+  where
+    pub found-here : (b : Block) (bs : List Block) (i : ℕ) → place ≡ b .from + i → i < length (b .numbers)
+        → found (rows ++ (more ++ (b ∷ bs))) place ≡ there (getD (b .numbers) i 0)
+    found-here b bs i e l =
+        found-past rows (more ++ (b ∷ bs)) n place past h
+        ∙ (found-behind more (b ∷ bs) place out ∙ found-in b bs place i e l)
+
+    pub found-nowhere : found (rows ++ more) place ≡ nowhere
+    found-nowhere = found-past rows more n place past h ∙ found-none more place out
 
 -- ---- Which way a look goes
 module _ {C : Type 0} (short outside : Bool) (f : Found) (c : C) where
@@ -73,3 +101,7 @@ look-goes short outside nowhere c a e h g =
     ap (λ (x : Looked). looking x c) g
     ∙ stops (lookRefusals short outside nowhere) 0 c _ (lentLength ∷ outOfRange ∷ []) noAccess 2 _ refl refl
     (t .0, (t .1, tt)) refl
+
+-- what the code answers, of what was found
+pub answer-as : {f g : Found} {a : Looked} → f ≡ g → a ≡ lookAnswer g → a ≡ lookAnswer f
+answer-as e h = h ∙ ap lookAnswer (sym e)

@@ -1,0 +1,31 @@
+use native.Mathlib.Omega.{arith}
+use Rattle.vocabulary.specs.Choice.{pick}
+use Rattle.vocabulary.specs.Range.{meets}
+use Rattle.vocabulary.specs.Look.{found}
+use Rattle.vocabulary.proofs.Look.{beside-one as one, found-none, answer-as}
+use Rattle.rgb640_look.proofs.state_look.Statement.{statement}
+use Rattle.rgb640_look.proofs.state_look.Tie as tie
+
+-- a place that no row has
+returns-9 : tie.Need-returns-9
+returns-9 c =
+    let ((((((((_, a), b), d), e), f), g), h), i) = c .before .match .rest in
+    λ t.
+    answer-as
+    (found-none _ _
+    (one a, (one b, (one d, (one e, (one f, (one g, (one h, (one i, (λ l u. omega arith, tt))))))))))
+    (c .refused .ensures)
+
+pub state-look-spec : {M : Type 1} → statement M
+unfolding found pick meets
+state-look-spec =
+    tie.close
+    (tie.spec (λ c κs. search) (λ c κs. search) (λ c κs. search) (λ c κs. search) (λ c κs. search) (λ c κs. search) (λ c κs. search) (λ c κs. search) (λ c κs. search)
+    (λ c t. rw (c .before .match .keys1) (c .seen .ensures))
+    (λ c t. rw (c .before .match .keys2) (c .seen-byte .ensures))
+    (λ c t. rw (c .before .match .keys3) (c .seen2 .ensures))
+    (λ c t. rw (c .before .match .keys4) (c .seen3 .ensures))
+    (λ c t. rw (c .before .match .keys5) (c .seen4 .ensures))
+    (λ c t. rw (c .before .match .keys6) (c .seen5 .ensures))
+    (λ c t. rw (c .before .match .keys7) (c .seen6 .ensures))
+    (λ c t. rw (c .before .match .keys8) (c .seen-byte2 .ensures)) returns-9)
