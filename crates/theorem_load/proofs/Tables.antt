@@ -24,7 +24,7 @@ module _ (n r g b : ℕ) (t : List ℕ) where
   below m i h = omega (arith, length-take 3 (drop (3 * m) (put n r g b t)))
 
   -- another entry is kept
-  put-other : (m : ℕ) → (n ≡ m → ⊥) → colourAt m (put n r g b t) ≡ colourAt m t
+  pub put-other : (m : ℕ) → (n ≡ m → ⊥) → colourAt m (put n r g b t) ≡ colourAt m t
   put-other m h =
       ext-getD 0 (colourAt m (put n r g b t)) (colourAt m t) (long m)
       (λ i l.
@@ -42,7 +42,7 @@ module _ (n r g b : ℕ) (t : List ℕ) where
     here (suc (suc zero)) l = own blue
     here (suc (suc (suc i))) l = absurd (let z : ⊥ = omega arith in z)
 
-    put-same : colourAt n (put n r g b t) ≡ r ∷ g ∷ b ∷ []
+    pub put-same : colourAt n (put n r g b t) ≡ r ∷ g ∷ b ∷ []
     put-same =
         ext-getD 0 (colourAt n (put n r g b t)) (r ∷ g ∷ b ∷ [])
         (long n ∙ omega (arith, length-take 3 (drop (3 * n) t), length-drop (3 * n) t))

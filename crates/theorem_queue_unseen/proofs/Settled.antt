@@ -20,7 +20,8 @@ use Rattle.vocabulary.proofs.Refusal.{none-exactly}
 use Rattle.ms622424.specs.declared.Port.{Port}
 use Rattle.ms622424.specs.Ms622424.{Chip, Entry, completed, complete, stored, allStored, registerAt, selected}
 use Rattle.ms622424.specs.Ms622424.{Moves, moves, roomMade, taken, written, answers}
-use Rattle.ms622424.specs.Ms622424.{Call, writes, reads, blanks, pixels, signals, resets, refusals, does, called}
+use Rattle.ms622424.specs.Ms622424.{Call, writes, reads, blanks, pixels, signals, resets, looks, refusals, does}
+use Rattle.ms622424.specs.Ms622424.{called}
 use Rattle.ms622424.proofs.Moves.{all-stored-append, moves-are, room-cases, room-keeps}
 use Rattle.theorem_queue_unseen.specs.Unseen.{isReset, completes, completedBy, settled}
 
@@ -107,6 +108,7 @@ does-settles (reads select) c h e = read-settles select c
 does-settles (blanks slots) c h e = moves-settled slots c
 does-settles (pixels mode word) c h e = refl
 does-settles (signals s) c h e = refl
+does-settles (looks place) c h e = refl
 does-settles resets c h e = absurd (h (refl, ap (λ (o : Outcome Chip). o .refusal) (accepted-does 0 c _ e)))
 
 pub call-settled : (k : Call) (c : Chip) → ¬ ((isReset k ≡ true) × Accepted called k c)

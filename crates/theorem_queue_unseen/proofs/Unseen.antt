@@ -7,7 +7,7 @@ use Rattle.vocabulary.specs.Run.{after, gathered, Along, Accepted}
 use Rattle.vocabulary.proofs.Face.{called-does}
 use Rattle.vocabulary.proofs.Range.{clash}
 use Rattle.ms622424.specs.Ms622424.{Chip, allStored, refusals, does, called}
-use Rattle.ms622424.specs.Ms622424.{Call, writes, reads, blanks, pixels, signals, resets}
+use Rattle.ms622424.specs.Ms622424.{Call, writes, reads, blanks, pixels, signals, resets, looks}
 use Rattle.ms622424.proofs.Moves.{all-stored-append}
 use Rattle.theorem_queue_unseen.specs.Unseen.{isReset, NoReset, completedBy, completedIn, settled, immediate}
 use Rattle.theorem_queue_unseen.specs.Unseen.{colourShown, component, QueueUnseen}
@@ -32,6 +32,7 @@ reset-empty (reads select) c e a = clash (sym e)
 reset-empty (blanks slots) c e a = clash (sym e)
 reset-empty (pixels mode word) c e a = clash (sym e)
 reset-empty (signals s) c e a = clash (sym e)
+reset-empty (looks place) c e a = clash (sym e)
 reset-empty resets c e a = ap (λ (o : Outcome Chip). o .left .waiting) (called-does refusals does resets c a)
 
 -- ---- Demand 3

@@ -1,5 +1,6 @@
 -- THE QUEUE CAN'T BE SEEN: what demand 3 says, over the definitions that the MS622424's calls promise (Ms622424.antt)
--- and over runs of any calls (Run.antt of the vocabulary).
+-- and over runs of any calls (Run.antt of the vocabulary). Looks may stand anywhere in a run: one completes nothing, and
+-- is no read of the table, since it answers from the map as stored (request P5).
 use Prim.Native.Nat.{ℕ, _+_, _*_}
 use mathlib.Core.Path.{_≡_}
 use mathlib.Core.Bool.{Bool, true, false, not, _&&_}
@@ -12,7 +13,7 @@ use Rattle.vocabulary.specs.Every.{every}
 use Rattle.vocabulary.specs.Run.{after, gathered, Along, Accepted, whereAccepted}
 use Rattle.ms622424.specs.declared.Port.{Port}
 use Rattle.ms622424.specs.Ms622424.{Chip, Entry, allStored, entryShown, gunShown}
-use Rattle.ms622424.specs.Ms622424.{Call, writes, reads, blanks, pixels, signals, resets, called}
+use Rattle.ms622424.specs.Ms622424.{Call, writes, reads, blanks, pixels, signals, resets, looks, called}
 
 -- ---- A run without an accepted reset
 
@@ -23,6 +24,7 @@ isReset (blanks slots) = false
 isReset (pixels mode word) = false
 isReset (signals s) = false
 isReset resets = true
+isReset (looks place) = false
 
 -- none of the calls is a reset that is accepted on the chip that it is made on
 abbrev pub NoReset : List Call → Chip → Type 0
@@ -40,6 +42,7 @@ completes (blanks slots) c = []
 completes (pixels mode word) c = []
 completes (signals s) c = []
 completes resets c = []
+completes (looks place) c = []
 
 -- .. if it is accepted; all of a run, in the order of its calls
 abbrev pub completedBy : Call → Chip → List Entry

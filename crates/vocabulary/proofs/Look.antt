@@ -2,7 +2,7 @@
 -- nothing.
 use Prim.Native.Nat.{ℕ, _+_, _-_, _<_, _≤_}
 use mathlib.Core.Path.{_≡_, refl, sym, ap, _∙_}
-use mathlib.Core.Bool.{Bool, true}
+use mathlib.Core.Bool.{Bool, true, false}
 use mathlib.Core.List.{List, [], _∷_, _++_}
 use native.Mathlib.Omega.{arith}
 use borrow.Author.Tests.{le-leb, leb-true}
@@ -10,7 +10,7 @@ use lib.Dec.{leb}
 use lib.ListN.{length, getD}
 use Rattle.vocabulary.specs.Every.{every}
 use Rattle.vocabulary.specs.Refusal.{lentLength, outOfRange, noAccess, refusalOf, standing}
-use Rattle.vocabulary.specs.Outcome.{Outcome, refusing, answered}
+use Rattle.vocabulary.specs.Outcome.{accepting, refusing, answered}
 use Rattle.vocabulary.specs.declared.Looked.{Looked}
 use Rattle.vocabulary.specs.Look.{Block, Found, there, nowhere, found, lookRefusals, looked, looking}
 use Rattle.vocabulary.specs.Look.{unseen, lookAnswer}
@@ -79,28 +79,38 @@ module _ (rows more : List Block) (n place : ℕ) (past : ends rows n ≡ true) 
     found-nowhere = found-past rows more n place past h ∙ found-none more place out
 
 -- ---- Which way a look goes
-module _ {C : Type 0} (short outside : Bool) (f : Found) (c : C) where
-  -- refused by what every call tries first
-  pub look-stops : {n : ℕ} (a : Looked) → n ≡ refusalOf (standing short outside) → (n ≡ 0 → ⊥)
-      → a ≡ unseen n
-      → looking a c ≡ answered (refusalOf (lookRefusals short outside f)) c (looked f c)
-  look-stops a e h g =
-      ap (λ (x : Looked). looking x c) g
-      ∙ tried-first (lookRefusals short outside f) 0 c (looked f c) short outside _ refl (λ t. t) e h
 
--- past that, as the place has it
+-- lengths and state right: the number at a place that is there, else refusal 3
+module _ {C : Type 0} {short outside : Bool} (c : C) (whole : short ≡ false) (inside : outside ≡ false) where
+  pub look-tells : {f : Found} (v : ℕ) → f ≡ there v
+      → answered (refusalOf (lookRefusals short outside f)) c (looked f c) ≡ accepting v 0 c
+  look-tells v e = rw e (sym (goes-on (lookRefusals short outside (there v)) 0 c _ (whole, (inside, (refl, tt)))))
+
+  pub look-misses : {f : Found} → f ≡ nowhere
+      → answered (refusalOf (lookRefusals short outside f)) c (looked f c) ≡ refusing 3 0 c
+  look-misses e =
+      rw e
+      (sym (stops (lookRefusals short outside nowhere) 0 c _ (lentLength ∷ outOfRange ∷ []) noAccess 2 _ refl refl
+      (whole, (inside, tt)) refl))
+
+-- as the code knows it: refused by what every call tries first, ..
+pub look-stops : {C : Type 0} (short outside : Bool) (f : Found) (c : C) {n : ℕ} (a : Looked)
+    → n ≡ refusalOf (standing short outside) → (n ≡ 0 → ⊥) → a ≡ unseen n
+    → looking a c ≡ answered (refusalOf (lookRefusals short outside f)) c (looked f c)
+look-stops short outside f c a e h g =
+    ap (λ (x : Looked). looking x c) g
+    ∙ tried-first (lookRefusals short outside f) 0 c (looked f c) short outside _ refl (λ t. t) e h
+
+-- .. and past that as the place has it
 pub look-goes : {C : Type 0} (short outside : Bool) (f : Found) (c : C) {n : ℕ} (a : Looked)
     → n ≡ refusalOf (standing short outside) → n ≡ 0 → a ≡ lookAnswer f
     → looking a c ≡ answered (refusalOf (lookRefusals short outside f)) c (looked f c)
 look-goes short outside (there v) c a e h g =
-    let t = standing-clear short outside (sym e ∙ h) in
-    ap (λ (x : Looked). looking x c) g
-    ∙ goes-on (lookRefusals short outside (there v)) 0 c _ (t .0, (t .1, (refl, tt)))
+    let (whole, inside) = standing-clear short outside (sym e ∙ h) in
+    ap (λ (x : Looked). looking x c) g ∙ sym (look-tells c whole inside v refl)
 look-goes short outside nowhere c a e h g =
-    let t = standing-clear short outside (sym e ∙ h) in
-    ap (λ (x : Looked). looking x c) g
-    ∙ stops (lookRefusals short outside nowhere) 0 c _ (lentLength ∷ outOfRange ∷ []) noAccess 2 _ refl refl
-    (t .0, (t .1, tt)) refl
+    let (whole, inside) = standing-clear short outside (sym e ∙ h) in
+    ap (λ (x : Looked). looking x c) g ∙ sym (look-misses c whole inside refl)
 
 -- what the code answers, of what was found
 pub answer-as : {f g : Found} {a : Looked} → f ≡ g → a ≡ lookAnswer g → a ≡ lookAnswer f

@@ -1,7 +1,7 @@
 -- Laws of runs, for any chip and any calls. Assumes nothing.
 use mathlib.Core.Path.{_≡_, refl, sym, ap, _∙_}
-use mathlib.Core.Bool.{Bool, true}
-use mathlib.Core.List.{List, [], _∷_, _++_, append-assoc}
+use mathlib.Core.Bool.{Bool, true, false}
+use mathlib.Core.List.{List, [], _∷_, _++_, append-assoc, map}
 use Rattle.vocabulary.specs.Outcome.{Outcome}
 use Rattle.vocabulary.specs.Reply.{Reply, telling}
 use Rattle.vocabulary.specs.Run.{besides, after, gathered, Along, gatheredBesides}
@@ -10,6 +10,16 @@ use Rattle.vocabulary.proofs.Choice.{picks-first, picks-second, cases}
 
 -- ---- One run
 module _ {C K : Type 0} (step : K → C → Outcome C) where
+  -- no call; one call and then the others, from where it leads
+  pub after-none : (c : C) → after step [] c ≡ c
+  unfolding after
+  after-none c = refl
+
+  pub after-next : (k : K) (ks : List K) (c : C) {d : C} → step k c .left ≡ d
+      → after step (k ∷ ks) c ≡ after step ks d
+  unfolding after
+  after-next k ks c e = ap (after step ks) e
+
   -- in two parts: the second is made on what the first left
   pub after-append : (ks ls : List K) (c : C) → after step (ks ++ ls) c ≡ after step ls (after step ks c)
   unfolding after
@@ -50,6 +60,13 @@ module _ {C K : Type 0} (step : K → C → Outcome C) where
   run-keeps P keeps ks c p =
       run-keeps-where P (λ (k : K) (d : C). Unit) (λ k d q h. keeps k d h) ks c (along-all _ (λ k d. tt) ks c) p
 
+-- calls of one type made as another's
+module _ {C J K : Type 0} (step : K → C → Outcome C) (as-call : J → K) where
+  pub after-map : (js : List J) (c : C) → after step (map as-call js) c ≡ after (λ (j : J). step (as-call j)) js c
+  unfolding after
+  after-map [] c = refl
+  after-map (j ∷ js) c = after-map js (step (as-call j) c .left)
+
 -- ---- Two chips under the same calls
 module _ {C D K : Type 0} (step : K → C → Outcome C) (other : K → D → Outcome D) (R : C → D → Type 0)
     (alike : Alike step other R) where
@@ -67,6 +84,33 @@ module _ {C D K : Type 0} (step : K → C → Outcome C) (other : K → D → Ou
       let (s, e) = alike k c d r in
       ap (λ (l : List Reply). telling (step k c) ∷ l) (run-replies ks _ _ s)
       ∙ ap (λ (t : Reply). t ∷ replies other ks (other k d .left)) e
+
+-- ---- A run without the calls of a kind
+module _ {K : Type 0} (kind : K → Bool) where
+  pub besides-append : (ks ls : List K) → besides kind (ks ++ ls) ≡ besides kind ks ++ besides kind ls
+  unfolding besides
+  besides-append [] ls = refl
+  besides-append (k ∷ ks) ls =
+      cases (kind k)
+      (λ e. picks-first _ _ e ∙ (besides-append ks ls ∙ ap (λ (l : List K). l ++ besides kind ls) (sym (picks-first _ _ e))))
+      (λ e.
+      picks-second _ _ e
+      ∙ (ap (λ (l : List K). k ∷ l) (besides-append ks ls)
+      ∙ ap (λ (l : List K). l ++ besides kind ls) (sym (picks-second _ _ e))))
+
+  -- none of them is of the kind; all of them are
+  module _ {J : Type 0} (as-call : J → K) where
+    pub besides-none : ((j : J) → kind (as-call j) ≡ false) → (js : List J)
+        → besides kind (map as-call js) ≡ map as-call js
+    unfolding besides
+    besides-none h [] = refl
+    besides-none h (j ∷ js) =
+        picks-second _ _ (h j) ∙ ap (λ (l : List K). as-call j ∷ l) (besides-none h js)
+
+    pub besides-all : ((j : J) → kind (as-call j) ≡ true) → (js : List J) → besides kind (map as-call js) ≡ []
+    unfolding besides
+    besides-all h [] = refl
+    besides-all h (j ∷ js) = picks-first _ _ (h j) ∙ besides-all h js
 
 -- ---- Calls of a kind that leave their chip: no other call can tell whether they were made
 module _ {C K : Type 0} (step : K → C → Outcome C) (kind : K → Bool)

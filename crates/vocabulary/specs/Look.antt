@@ -1,8 +1,8 @@
 -- Looks: the number that stands at a place of a chip. A look moves nothing (request P5). A chip's places are one table
 -- of its definitions, `lookPlaces`; what follows is of any chip.
-use Prim.Native.Nat.{ℕ, suc, _-_}
+use Prim.Native.Nat.{ℕ, _-_}
 use mathlib.Core.Bool.{Bool, true, false}
-use mathlib.Core.List.{List, [], _∷_, _++_}
+use mathlib.Core.List.{List, [], _∷_}
 use lib.ListN.{length, getD}
 use Rattle.vocabulary.specs.Choice.{pick}
 use Rattle.vocabulary.specs.Range.{within, meets}
@@ -62,12 +62,3 @@ unseen n = record { refusal = n; value = 0 }
 abbrev pub lookAnswer : Found → Looked
 lookAnswer (there n) = record { refusal = 0; value = n }
 lookAnswer nowhere = unseen 3
-
--- all places of a table
-abbrev pub placesFrom : ℕ → List ℕ → List ℕ
-placesFrom place [] = []
-placesFrom place (n ∷ ns) = place ∷ placesFrom (suc place) ns
-
-abbrev pub placesOf : List Block → List ℕ
-placesOf [] = []
-placesOf (b ∷ bs) = placesFrom (b .from) (b .numbers) ++ placesOf bs

@@ -13,14 +13,16 @@ returns-10 c =
     λ cs os.
     answer-as
     (found-none _ _
-    (one a, (one b, (one d, (one e, (one f, (one g, (one h, (one i, (one j, (λ l u. omega arith, (λ l u. omega arith, tt))))))))))))
+    (one a, (one b, (one d, (one e, (one f, (one g, (one h, (one i, (one j,
+    (λ l u. omega arith, (λ l u. omega arith, tt))))))))))))
     (c .refused .ensures)
 
 pub state-look-spec : {M : Type 1} → statement M
 unfolding found pick meets
 state-look-spec =
     tie.close
-    (tie.spec (λ c κs. search) (λ c κs. search) (λ c κs. search) (λ c κs. search) (λ c κs. search) (λ c κs. search) (λ c κs. search) (λ c κs. search) (λ c κs. search) (λ c κs. search)
+    (tie.spec (λ c κs. search) (λ c κs. search) (λ c κs. search) (λ c κs. search) (λ c κs. search) (λ c κs. search)
+    (λ c κs. search) (λ c κs. search) (λ c κs. search) (λ c κs. search)
     (λ c cs os. rw (c .before .match .keys1) (c .seen-byte .ensures))
     (λ c cs os. rw (c .before .match .keys2) (c .seen-byte2 .ensures))
     (λ c cs os. rw (c .before .match .keys3) (c .seen-byte3 .ensures))

@@ -20,7 +20,8 @@ pub state-look-spec : {M : Type 1} → statement M
 unfolding found pick meets
 state-look-spec =
     tie.close
-    (tie.spec (λ c κs. search) (λ c κs. search) (λ c κs. search) (λ c κs. search) (λ c κs. search) (λ c κs. search) (λ c κs. search) (λ c κs. search) (λ c κs. search)
+    (tie.spec (λ c κs. search) (λ c κs. search) (λ c κs. search) (λ c κs. search) (λ c κs. search) (λ c κs. search)
+    (λ c κs. search) (λ c κs. search) (λ c κs. search)
     (λ c t. rw (c .before .match .keys1) (c .seen .ensures))
     (λ c t. rw (c .before .match .keys2) (c .seen-byte .ensures))
     (λ c t. rw (c .before .match .keys3) (c .seen2 .ensures))

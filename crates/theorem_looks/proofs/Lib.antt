@@ -1,0 +1,3 @@
+pub mod Looks
+pub mod Story
+pub mod Load
