@@ -12,9 +12,34 @@ returns-10 c =
     let (((((((((_, a), b), d), e), f), g), h), i), j) = c .before .match .rest in
     λ cs os.
     answer-as
-    (found-none _ _
-    (one a, (one b, (one d, (one e, (one f, (one g, (one h, (one i, (one j,
-    (λ l u. omega arith, (λ l u. omega arith, tt))))))))))))
+    (found-none _ _ (
+      one a,
+      (
+        one b,
+        (
+          one d,
+          (
+            one e,
+            (
+              one f,
+              (
+                one g,
+                (
+                  one h,
+                  (
+                    one i,
+                    (
+                      one j,
+                      (λ l u. omega arith, (λ l u. omega arith, tt)),
+                    ),
+                  ),
+                ),
+              ),
+            ),
+          ),
+        ),
+      ),
+    ))
     (c .refused .ensures)
 
 pub state-look-spec : {M : Type 1} → statement M
