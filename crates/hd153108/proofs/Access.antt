@@ -17,8 +17,8 @@ use Rattle.vocabulary.proofs.Call.{tried-first, stops, goes-on}
 use Rattle.hd153108.specs.declared.State.{State}
 use Rattle.hd153108.specs.declared.Answer.{Answer}
 use Rattle.hd153108.specs.Hd153108.{Chip, chip, registerAt, noRegister, ranges, short, outside, InRange}
-use Rattle.hd153108.specs.Hd153108.{accessRefusals, Call, writes, reads, resets, ticks, pixels, looks, does, called}
-use Rattle.hd153108.specs.Hd153108.{refuse, accept, outcome}
+use Rattle.hd153108.specs.Hd153108.{accessRefusals, Call, writes, reads, resets, ticks, pixels, looks, does}
+use Rattle.hd153108.specs.Hd153108.{called, refuse, accept, outcome}
 use Rattle.hd153108.proofs.InRange.{in-range, ranges-hold, not-short}
 
 -- ---- What every call tries first

@@ -51,7 +51,8 @@ step-determined k =
 pub tick-determined : (k : Clock) → Determined {A = ℕ × Clock} (λ x. clockOutcome (x .0) (x .1)) (tick k)
 tick-determined k = determined _ (λ o. (o .refusal, o .left)) (λ x. refl) _
 
--- the pixel's part, and its refusal; its three bytes are `shown-determined` (Determined)
+-- the pixel's part, and its refusal; its three bytes are `shown-determined`, a look's answer
+-- `looked-determined` (Determined)
 pub part-determined : (enable number byte : ℕ) (c : Chip)
     → Determined (λ (shown : List ℕ). shown) (pixelPart enable number byte c .left)
 part-determined enable number byte c = itself _

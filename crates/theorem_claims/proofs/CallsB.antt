@@ -16,7 +16,8 @@ pub called-judged-b : (k : Call) (c : Chip) → Judged (refusals k c) 0 c (calle
 called-judged-b k c = called-judged refusals does does-accepts k c
 
 -- ---- determined: the answer, the queue and the map, of whatever call, by the promise of its
--- places; a pixel's answer by its three bytes (`shown-determined` of Determined)
+-- places; a pixel's answer by its three bytes and a look's by its number (`shown-determined`, `looked-determined` of
+-- Determined)
 answerOf : Outcome Handed → Answer
 answerOf o = record { refusal = o .refusal; value = o .value; count = o .count; state = o .left .state }
 

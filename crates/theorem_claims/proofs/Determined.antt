@@ -1,10 +1,12 @@
 -- The one lemma behind "two outcomes allowed by it are equal": what a caller sees can be read back out of what the
 -- promise speaks of. Assumes nothing.
-use mathlib.Core.Path.{_≡_, sym, ap, _∙_}
+use mathlib.Core.Path.{_≡_, refl, sym, ap, _∙_}
 use Rattle.vocabulary.proofs.Reply.{decoded-once}
 use Rattle.vocabulary.specs.Outcome.{Outcome}
 use Rattle.vocabulary.specs.Reply.{Reply, decoded}
 use Rattle.vocabulary.specs.Pixel.{showing}
+use Rattle.vocabulary.specs.Look.{looking}
+use Rattle.vocabulary.specs.declared.Looked.{Looked}
 use Rattle.vocabulary.specs.declared.Shown.{Shown}
 use Rattle.vocabulary.proofs.Pixel.{showing-once}
 use Rattle.theorem_claims.specs.Determined.{DeterminedOf, Determined, Bytes}
@@ -30,3 +32,7 @@ number-determined d a b ha hb e f = decoded-once a b (e ∙ sym f)
 pub shown-determined : {C : Type 0} (c : C) (d : Outcome C) → DeterminedOf Bytes (λ (a : Shown). showing a c) d
 shown-determined c d a b ha hb e f =
     showing-once a b c (ha .red) (ha .green) (hb .red) (hb .green) (e ∙ sym f)
+
+-- a look's, of any chip
+pub looked-determined : {C : Type 0} (c : C) (d : Outcome C) → Determined (λ (a : Looked). looking a c) d
+looked-determined c d = determined _ (λ o. record { refusal = o .refusal; value = o .value }) (λ a. refl) d

@@ -17,8 +17,8 @@ use Rattle.hd153108.proofs.InRange.{not-short, not-outside}
 use Rattle.theorem_looks.specs.Agrees.{readA, TellsA, AgreesA}
 
 module _ (c : Chip) (g : InRange c) where
-  agrees : (place select : ℕ) → Served select → found (lookPlaces c) place ≡ there (answers (registerAt select) c .value)
-      → TellsA c place (readA c select)
+  agrees : (place select : ℕ) → Served select
+      → found (lookPlaces c) place ≡ there (answers (registerAt select) c .value) → TellsA c place (readA c select)
   unfolding calledBy
   agrees place select h e =
       let reads = ap (λ (o : Outcome Chip). o .value) (access-goes c g (reading {select = select}) h) in

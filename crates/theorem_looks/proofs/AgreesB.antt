@@ -16,8 +16,8 @@ use Rattle.vocabulary.specs.Range.{meets}
 use Rattle.vocabulary.specs.Run.{Accepted}
 use Rattle.vocabulary.proofs.Face.{called-does}
 use Rattle.vocabulary.proofs.Look.{ends, found-here, look-tells}
-use Rattle.ms622424.specs.Ms622424.{Chip, InRange, registerAt, readable, selected, statusOf, statusByte, mark, bufferByte}
-use Rattle.ms622424.specs.Ms622424.{answers, lookPlaces, reads, refusals, does, called}
+use Rattle.ms622424.specs.Ms622424.{Chip, InRange, registerAt, readable, selected, statusOf, statusByte, mark}
+use Rattle.ms622424.specs.Ms622424.{bufferByte, answers, lookPlaces, reads, refusals, does, called}
 use Rattle.ms622424.proofs.Access.{is-red, is-green}
 use Rattle.ms622424.proofs.InRange.{lengths-right, ranges-right}
 use Rattle.ms622424.proofs.Read.{read-does}

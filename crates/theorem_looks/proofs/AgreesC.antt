@@ -44,7 +44,8 @@ module _ (c : Chip) (g : InRange c) where
   byte-is l u = valued (read-data c g (ap (λ (row : Space). row .onRead) (space-read _ l u)))
 
   -- the fetched entry's number at each place in the order
-  fetched-at : (p : ℕ) → p < 3 → called (looks (0x4 + p)) c .value / 4 ≡ transferAt threeBytes p .tells (c .state .fetched)
+  fetched-at : (p : ℕ) → p < 3
+      → called (looks (0x4 + p)) c .value / 4 ≡ transferAt threeBytes p .tells (c .state .fetched)
   unfolding transferAt found pick meets
   fetched-at zero h = ap (λ (o : Outcome Chip). o .value / 4) (tells 0x4 _ refl)
   fetched-at (suc zero) h = ap (λ (o : Outcome Chip). o .value / 4) (tells 0x5 _ refl)

@@ -13,8 +13,8 @@ use Rattle.vocabulary.specs.Range.{meets}
 use Rattle.vocabulary.specs.Run.{besides, after}
 use Rattle.vocabulary.proofs.Look.{look-tells}
 use Rattle.vocabulary.proofs.Run.{after-none, after-next}
-use Rattle.hd153108.specs.Hd153108.{Chip, colour, registerAt, nibble, dataWrite, written, answers, InRange, writes, reads}
-use Rattle.hd153108.specs.Hd153108.{looks, isLook, Call, does, called}
+use Rattle.hd153108.specs.Hd153108.{Chip, colour, registerAt, nibble, dataWrite, written, answers, InRange, writes}
+use Rattle.hd153108.specs.Hd153108.{reads, looks, isLook, Call, does, called}
 use Rattle.hd153108.proofs.Access.{Access, writing, reading, Served, selectOf, access-goes}
 use Rattle.hd153108.proofs.Data.{at, red-write, green-write, latches-shared}
 use Rattle.hd153108.proofs.InRange.{not-short, not-outside}
@@ -65,7 +65,8 @@ module _ (address r g b : ℕ) (c : Chip) (range : InRange c) (ha : address < 25
       let (l3, i3) = byte-goes g d2 {e = d3} hg i2 refl in
       let (l4, _) = byte-goes b d3 hb i3 refl in
       after-next called _ _ c l1
-      ∙ (after-next called _ _ c1 l2 ∙ (after-next called _ _ d2 l3 ∙ (after-next called _ _ d3 l4 ∙ after-none called _)))
+      ∙ (after-next called _ _ c1 l2
+      ∙ (after-next called _ _ d2 l3 ∙ (after-next called _ _ d3 l4 ∙ after-none called _)))
 
   entry-stored : Stored address r g b c stored
   unfolding stored c1
@@ -107,7 +108,8 @@ module _ (address r g b : ℕ) (c : Chip) (range : InRange c) (ha : address < 25
       ∙ (after-next called _ _ d3 l4 ∙ (after-next called _ _ d4 l5 ∙ after-none called _))))))
       (record { colours = refl; red = refl; green = refl })
 
-  tells-after : let d = after called (writes 0 address ∷ writes 1 r ∷ []) c in called (looks 0) d ≡ accepting address 0 d
+  tells-after : let d = after called (writes 0 address ∷ writes 1 r ∷ []) c in
+      called (looks 0) d ≡ accepting address 0 d
   tells-after =
       subst (λ (d : Chip). called (looks 0) d ≡ accepting address 0 d)
       (sym (after-next called _ _ c (to-c1 .0) ∙ (after-next called _ _ c1 (to-c2 .0) ∙ after-none called c2)))

@@ -92,7 +92,9 @@ module _ {K : Type 0} (kind : K → Bool) where
   besides-append [] ls = refl
   besides-append (k ∷ ks) ls =
       cases (kind k)
-      (λ e. picks-first _ _ e ∙ (besides-append ks ls ∙ ap (λ (l : List K). l ++ besides kind ls) (sym (picks-first _ _ e))))
+      (λ e.
+      picks-first _ _ e
+      ∙ (besides-append ks ls ∙ ap (λ (l : List K). l ++ besides kind ls) (sym (picks-first _ _ e))))
       (λ e.
       picks-second _ _ e
       ∙ (ap (λ (l : List K). k ∷ l) (besides-append ks ls)
