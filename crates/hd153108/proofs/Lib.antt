@@ -5,3 +5,4 @@ pub mod Lent
 pub mod Data
 pub mod Masks
 pub mod Blink
+pub mod Look

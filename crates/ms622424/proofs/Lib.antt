@@ -8,3 +8,4 @@ pub mod Reset
 pub mod Kept
 pub mod Pixel
 pub mod Signals
+pub mod Look

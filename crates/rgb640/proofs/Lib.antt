@@ -5,3 +5,4 @@ pub mod InRange
 pub mod Index
 pub mod Keeps
 pub mod Order
+pub mod Look

@@ -6,19 +6,15 @@ use mathlib.Core.List.{List, [], _∷_}
 use native.Mathlib.Omega.{arith}
 use lib.ListN.{length}
 use Rattle.vocabulary.specs.Choice.{pick}
-use Rattle.vocabulary.specs.Face.{calledBy}
-use Rattle.vocabulary.specs.Look.{found}
 use Rattle.vocabulary.specs.Outcome.{Outcome, accepting}
-use Rattle.vocabulary.specs.Range.{meets}
 use Rattle.vocabulary.specs.Run.{besides, after}
-use Rattle.vocabulary.proofs.Look.{look-tells}
 use Rattle.vocabulary.proofs.Run.{after-none, after-next}
 use Rattle.hd153108.specs.Hd153108.{Chip, colour, registerAt, nibble, dataWrite, written, answers, InRange, writes}
 use Rattle.hd153108.specs.Hd153108.{reads, looks, isLook, Call, does, called}
 use Rattle.hd153108.proofs.Access.{Access, writing, reading, Served, selectOf, access-goes}
 use Rattle.hd153108.proofs.Data.{at, red-write, green-write, latches-shared}
-use Rattle.hd153108.proofs.InRange.{not-short, not-outside}
 use Rattle.hd153108.proofs.Keep.{called-keeps-range, looks-unnoticed}
+use Rattle.hd153108.proofs.Look.{look-state}
 use Rattle.theorem_load.proofs.Tables.{put-same, put-other}
 use Rattle.theorem_looks.specs.Looks.{colourCalls, Stored, Torn, Story, Stories}
 
@@ -87,8 +83,8 @@ module _ (address r g b : ℕ) (c : Chip) (range : InRange c) (ha : address < 25
 
   -- ---- a look at the address, after red
   look-answers : called (looks 0) c2 ≡ accepting address 0 c2
-  unfolding calledBy found pick meets c2
-  look-answers = look-tells c2 (not-short c2 (to-c2 .1)) (not-outside c2 (to-c2 .1)) address refl
+  unfolding c2
+  look-answers = look-state c2 (to-c2 .1) .0
 
   -- ---- a read of the address in its place
   torn : Torn g b c (after called (writes 0 address ∷ writes 1 r ∷ reads 0 ∷ writes 1 g ∷ writes 1 b ∷ []) c)

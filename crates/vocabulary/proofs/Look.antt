@@ -10,7 +10,7 @@ use lib.Dec.{leb}
 use lib.ListN.{length, getD}
 use Rattle.vocabulary.specs.Every.{every}
 use Rattle.vocabulary.specs.Refusal.{lentLength, outOfRange, noAccess, refusalOf, standing}
-use Rattle.vocabulary.specs.Outcome.{accepting, refusing, answered}
+use Rattle.vocabulary.specs.Outcome.{Outcome, accepting, refusing, answered}
 use Rattle.vocabulary.specs.declared.Looked.{Looked}
 use Rattle.vocabulary.specs.Look.{Block, Found, there, nowhere, found, lookRefusals, looked, looking}
 use Rattle.vocabulary.specs.Look.{unseen, lookAnswer}
@@ -115,3 +115,7 @@ look-goes short outside nowhere c a e h g =
 -- what the code answers, of what was found
 pub answer-as : {f g : Found} {a : Looked} → f ≡ g → a ≡ lookAnswer g → a ≡ lookAnswer f
 answer-as e h = h ∙ ap lookAnswer (sym e)
+
+-- an answer that is another's tells what the other tells
+pub looked-as : {C : Type 0} {c : C} {o : Outcome C} (a : Looked) {b : Looked} → a ≡ b → o ≡ looking b c → looking a c ≡ o
+looked-as {c = c} a e f = ap (λ (x : Looked). looking x c) e ∙ sym f
