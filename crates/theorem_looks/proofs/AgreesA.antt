@@ -1,11 +1,11 @@
 -- Chip A's looks agree with its reads. Assumes nothing.
 use Prim.Native.Nat.{ℕ, _+_, _*_, _%_}
-use mathlib.Core.Path.{_≡_, refl, subst}
+use mathlib.Core.Path.{refl, subst}
 use native.Mathlib.Omega.{arith}
 use Rattle.vocabulary.specs.Outcome.{Outcome}
 use Rattle.hd153108.specs.Hd153108.{Chip, registerAt, answers, InRange}
 use Rattle.hd153108.proofs.Access.{Served, reading, access-goes}
-use Rattle.hd153108.proofs.Look.{Tells, look-state, look-overlay, look-colour}
+use Rattle.hd153108.proofs.Look.{look-state, look-overlay, look-colour}
 use Rattle.theorem_looks.specs.Agrees.{readA, TellsA, AgreesA}
 
 module _ (c : Chip) (g : InRange c) where

@@ -6,13 +6,12 @@ use Rattle.vocabulary.specs.Choice.{pick}
 use Rattle.vocabulary.specs.Run.{besides, after}
 use Rattle.vocabulary.proofs.Run.{after-map, besides-append, besides-all, besides-none}
 use Rattle.hd153108.specs.Hd153108 as A
-use Rattle.hd153108.specs.Hd153108.{Chip, InRange, looks, isLook, called}
+use Rattle.hd153108.specs.Hd153108.{Chip, looks, isLook, called}
 use Rattle.hd153108.proofs.Keep.{looks-unnoticed}
-use Rattle.sheet.specs.declared.Line.{Line}
 use Rattle.calls.specs.Calls.{Call, callsOf}
 use Rattle.theorem_load.specs.Load.{Leaves, writing, made}
 use Rattle.theorem_load.proofs.Load.{load}
-use Rattle.theorem_looks.specs.Looks.{panel, amid, below, everyPlace, LoadsWithLooks}
+use Rattle.theorem_looks.specs.Looks.{panel, amid, below, LoadsWithLooks}
 
 -- without the looks put in between, a list is itself
 amid-looks : (places : List ℕ) (ks : List Call) → besides isLook (amid (map looks places) (map panel ks)) ≡ map panel ks
