@@ -199,7 +199,7 @@ static void line_c(void) {
     else printf("expand=%c%04x\n", below(2) ? '6' : '8', (unsigned)below(256));
 }
 
-/* a look at the state or a table of the chip; one in sixteen at a place that is not there */
+/* a look at the state or the largest table of the chip; now and then at a place that is not there */
 static void look_line(unsigned chip, unsigned long n) {
     static const unsigned first[3] = {0x1000, 0x10000, 0x10000}, length[3] = {816, 26112, 3264};
     unsigned spread = (unsigned)(n * 2654435761u >> 8 & 0xffffff);
