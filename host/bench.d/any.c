@@ -33,6 +33,13 @@ static void see(struct seen *seen, const void *answer, size_t n) {
         see(seen, &a, sizeof a); \
     } while (0)
 #define SEE_B(call) SEE(flat_b(call), struct flat_b)
+#define SEE_LOOK(call) SEE(flat_look(call), struct flat_look)
+
+/* a place of the state, which has so many, or of a block; now and then one to either side of it, or any number */
+static uint32_t look_at(uint32_t numbers, uint32_t first, uint32_t length) {
+    if (below(3) == 0) return near(numbers, 31);
+    return below(10) ? first + near(length, 31) : first - 1 + (length + 1) * below(2);
+}
 
 static zk_a_state state_a(void) {
     zk_a_state s = {0};
@@ -53,13 +60,15 @@ static void any_a(struct lent *l, struct seen *seen) {
     uint8_t select = near(8, 8), byte = below(256), enable = near(2, 8), number = near(4, 8);
     uint8_t *c = l->colours, *o = l->overlays;
     size_t m = length(sizeof l->colours), n = length(sizeof l->overlays), size = length(sizeof l->sheet);
+    uint32_t place = below(4) ? look_at(9, ZK_A_LOOK_COLOURS, 768) : look_at(9, ZK_A_LOOK_OVERLAYS, 12);
     c[below(768)] = below(100) ? 3 : 16;
-    switch (below(6)) {
+    switch (below(7)) {
     case 0: SEE(CALL(a_write)(s, select, byte, c, m, o, n), zk_a_answer); break;
     case 1: SEE(CALL(a_read)(s, select, c, m, o, n), zk_a_answer); break;
     case 2: SEE(CALL(a_pixel)(s, c, m, o, n, enable, number, byte), zk_a_shown); break;
     case 3: SEE(CALL(a_step)(s.clock), zk_a_clock_answer); break;
     case 4: SEE(CALL(a_reset)(s), zk_a_answer); break;
+    case 5: SEE_LOOK(CALL(a_look)(s, place, c, m, o, n)); break;
     default: SEE(CALL(sheet_write)(s, c, m, o, n, l->sheet, size), uint64_t);
     }
     for (unsigned i = 0; i < 768; i++) c[i] &= 15;
@@ -89,12 +98,13 @@ static void any_b(struct lent *l, struct seen *seen) {
         l->queue[i] |= i < s.fifo.waiting ? below(1 << 24) : 0;
     }
     if (below(20) == 0) l->queue[below(ZK_B_PLACES)] = (uint64_t)1 << below(64);
-    switch (below(6)) {
+    switch (below(7)) {
     case 0: SEE_B(CALL(b_write)(s, select, byte, l->queue, places, m, bytes)); break;
     case 1: SEE_B(CALL(b_read)(s, select, l->queue, places, m, bytes)); break;
     case 2: SEE_B(CALL(b_blank)(s, slots, l->queue, places, m, bytes)); break;
     case 3: SEE(CALL(b_pixel)(s, mode, word, l->queue, places, m, bytes), zk_b_shown); break;
     case 4: SEE_B(CALL(b_sync)(s, signals, l->queue, places)); break;
+    case 5: SEE_LOOK(CALL(b_look)(s, look_at(9, ZK_B_LOOK_MAP, ZK_B_MAP), l->queue, places, m, bytes)); break;
     default: SEE_B(CALL(b_reset)(s, l->queue, places));
     }
     see(seen, l->queue, sizeof l->queue);
@@ -120,11 +130,12 @@ static void any_c(struct lent *l, struct seen *seen) {
     uint8_t port = (uint8_t)(4 + near(3, 8)), byte = below(256);
     uint32_t component = near(256, 30);
     size_t n = length(3072);
-    switch (below(5)) {
+    switch (below(6)) {
     case 0: SEE(CALL(c_write)(s, port, byte, l->table, n), zk_c_answer); break;
     case 1: SEE(CALL(c_read)(s, port, l->table, n), zk_c_answer); break;
     case 2: SEE(CALL(c_reset)(s), zk_c_answer); break;
     case 3: SEE(CALL(expand8)(component), uint64_t); break;
+    case 4: SEE_LOOK(CALL(c_look)(s, look_at(8, ZK_C_LOOK_TABLE, 3072), l->table, n)); break;
     default: SEE(CALL(expand6)(component), uint64_t);
     }
 }

@@ -1,11 +1,12 @@
-/* bench check | times | counts | log LINES | program COMMAND..: the measuring program of host/bench.
+/* bench check | times | counts | log LINES | looks LINES | program COMMAND..: the measuring program of host/bench.
  *
  * check: every work once for the library, plain C and plain C that tests nothing, and calls on any input for the first
  *   two; all bytes of all answers and tables are compared by a checksum. Exits 1 where one differs.
  * times: a line 'time TAB work TAB who TAB ns a call' each, the best of several runs.
- * counts: every work once, a line 'calls TAB work TAB who TAB number' each, then mark(); callgrind dumps there.
- * log LINES: a port log of mixed lines. program COMMAND..: the best time of several runs of it, standard input given
- *   anew each time, a line 'ns TAB N'. */
+ * counts: every work once, a line 'count TAB work TAB who TAB number TAB what it tests' each, then mark(); callgrind
+ *   dumps there. Then every single call, a line 'single TAB chip TAB who TAB read or look TAB select or place' each.
+ * log LINES: a port log of mixed lines, without looks. looks LINES: the same, every other line a look.
+ * program COMMAND..: the best time of several runs of it, standard input given anew each time, a line 'ns TAB N'. */
 #include "works.h"
 
 #include <fcntl.h>
@@ -20,7 +21,28 @@
 static const struct {
     const char *who;
     const struct work *works;
-} sides[3] = {{"zk", zk_works}, {"plain", plain_works}, {"bare", bare_works}};
+    run_single *const *single;
+} sides[3] = {{"zk", zk_works, &zk_single}, {"plain", plain_works, &plain_single}, {"bare", bare_works, &bare_single}};
+
+/* The single calls: each select or port whose read is accepted, each number of a state, and both ends of the tables, so
+ * that the dearest look can be set beside the cheapest read. */
+static const struct {
+    char chip;
+    const char *selects;
+    uint32_t numbers, ends[4];
+} chips[3] = {{'a', "0134567", 9, {0x100, 0x10b, 0x1000, 0x12ff}},
+              {'b', "01234567", 9, {0x10000, 0x12fff, 0x13000, 0x15fff}},
+              {'c', "456", 8, {0x10000, 0x105ff, 0x10600, 0x10bff}}};
+
+static void singles(void (*each)(struct single)) {
+    for (unsigned k = 0; k < 3; k++) {
+        struct single call = {chips[k].chip, 0, 0};
+        for (const char *s = chips[k].selects; *s != 0; s++) call.at = (uint32_t)(*s - '0'), each(call);
+        call.look = 1;
+        for (call.at = 0; call.at < chips[k].numbers; call.at++) each(call);
+        for (unsigned i = 0; i < 4; i++) call.at = chips[k].ends[i], each(call);
+    }
+}
 
 static struct lent lent;
 
@@ -53,8 +75,18 @@ static uint64_t checksum(void (*run)(struct lent *, struct seen *)) {
     return seen.number;
 }
 
+/* a single call's answer, of the library and of plain C */
+static int differs;
+static void check_single(struct single call) {
+    struct seen seen[2] = {{0, 0, 1}, {0, 0, 1}};
+    for (unsigned k = 0; k < 2; k++) fill(), (*sides[k].single)(&lent, &seen[k], call);
+    if (seen[0].number == seen[1].number) return;
+    fprintf(stderr, "bench: chip %c, %s %x: the library and plain answer differently\n", call.chip,
+            call.look ? "look" : "read", (unsigned)call.at);
+    differs = 1;
+}
+
 static int check(void) {
-    int differs = 0;
     for (unsigned w = 0; w < WORKS; w++)
         for (unsigned k = 1; k < 3; k++) {
             if (k == 2 && !bare_works[w].bare) continue;
@@ -66,6 +98,7 @@ static int check(void) {
         fprintf(stderr, "bench: on any input the library and plain answer differently\n");
         differs = 1;
     }
+    singles(check_single);
     return differs;
 }
 
@@ -100,6 +133,18 @@ static void times(void) {
 /* callgrind dumps its counts before this */
 __attribute__((noinline)) void mark(void) { __asm__ volatile(""); }
 
+/* mark() is not the last call: the compiler would jump to it, which callgrind takes for no call */
+static void count_single(struct single call) {
+    for (unsigned k = 0; k < 2; k++) {
+        struct seen seen = {0, 0, 0};
+        fill();
+        (*sides[k].single)(&lent, &seen, call);
+        mark();
+        printf("single\t%c\t%s\t%s\t%x\n", call.chip - 'a' + 'A', sides[k].who, call.look ? "look" : "read",
+               (unsigned)call.at);
+    }
+}
+
 static void counts(void) {
     for (unsigned w = 0; w < WORKS; w++)
         for (unsigned k = 0; k < 3; k++) {
@@ -107,9 +152,10 @@ static void counts(void) {
             if (k == 2 && !bare_works[w].bare) continue;
             fill();
             sides[k].works[w].run(&lent, &seen);
-            printf("calls\t%s\t%s\t%lu\t%s\n", zk_works[w].name, sides[k].who, seen.calls, zk_works[w].validates);
+            printf("count\t%s\t%s\t%lu\t%s\n", zk_works[w].name, sides[k].who, seen.calls, zk_works[w].validates);
             mark();
         }
+    singles(count_single);
 }
 
 /* ---- the log: random numbers by splitmix64, always the same */
@@ -153,11 +199,19 @@ static void line_c(void) {
     else printf("expand=%c%04x\n", below(2) ? '6' : '8', (unsigned)below(256));
 }
 
-static void log_lines(unsigned long lines) {
-    static const char *const chips[3] = {"153108", "622424", "640"};
+/* a look at the state or the largest table of the chip; now and then at a place that is not there */
+static void look_line(unsigned chip, unsigned long n) {
+    static const unsigned first[3] = {0x1000, 0x10000, 0x10000}, length[3] = {816, 26112, 3264};
+    unsigned spread = (unsigned)(n * 2654435761u >> 8 & 0xffffff);
+    printf("look=%05x\n", n % 2 ? spread % 9 : first[chip] + spread % length[chip]);
+}
+
+static void log_lines(unsigned long lines, int looks) {
+    static const char *const names[3] = {"153108", "622424", "640"};
     unsigned chip = 0;
     for (unsigned long i = 0; i < lines; i++) {
-        if (below(50) == 0) printf("chip=%s\n", chips[chip = (unsigned)below(3)]);
+        if (looks && i % 2 == 1) look_line(chip, i / 2);
+        else if (below(50) == 0) printf("chip=%s\n", names[chip = (unsigned)below(3)]);
         else if (below(200) == 0) printf("reset\n");
         else if (below(100) == 0) printf("no such line %u\n", (unsigned)below(1000));
         else if (below(20000) == 0) printf("sheet\n");
@@ -190,8 +244,9 @@ int main(int argc, char **argv) {
     if (strcmp(what, "check") == 0) return check();
     if (strcmp(what, "times") == 0) return times(), 0;
     if (strcmp(what, "counts") == 0) return counts(), 0;
-    if (strcmp(what, "log") == 0 && argc == 3) return log_lines(strtoul(argv[2], NULL, 10)), 0;
+    if (strcmp(what, "log") == 0 && argc == 3) return log_lines(strtoul(argv[2], NULL, 10), 0), 0;
+    if (strcmp(what, "looks") == 0 && argc == 3) return log_lines(strtoul(argv[2], NULL, 10), 1), 0;
     if (strcmp(what, "program") == 0 && argc > 2) return program(argv + 2);
-    fprintf(stderr, "usage: bench check | times | counts | log LINES | program COMMAND..\n");
+    fprintf(stderr, "usage: bench check | times | counts | log LINES | looks LINES | program COMMAND..\n");
     return 2;
 }

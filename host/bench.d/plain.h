@@ -1,4 +1,5 @@
-/* plain.h: the library's calls in plain C, written from document 01, to measure the proved ones against.
+/* plain.h: the library's calls in plain C, written from document 01 and, of the look, request P5 of document 02, to
+ * measure the proved ones against.
  *
  * The types are those of zikombaru.h. The sources are compiled twice. With CHECKED 1 the calls are plain_..: the same
  * contract, any input, the refusals in their order. With CHECKED 0 they are bare_..: lengths and ranges (refusals 1 and
@@ -15,6 +16,8 @@
                             uint8_t *overlays, size_t overlays_length);                                                \
     zk_a_answer p##_a_read(zk_a_state s, uint8_t select, const uint8_t *colours, size_t colours_length,                \
                            const uint8_t *overlays, size_t overlays_length);                                           \
+    zk_looked p##_a_look(zk_a_state s, uint32_t place, const uint8_t *colours, size_t colours_length,                  \
+                         const uint8_t *overlays, size_t overlays_length);                                             \
     zk_a_answer p##_a_reset(zk_a_state s);                                                                             \
     zk_a_clock_answer p##_a_step(zk_a_clock k);                                                                        \
     uint8_t p##_a_tick(zk_a_clock *k);                                                                                 \
@@ -24,6 +27,8 @@
                             size_t bytes);                                                                             \
     zk_b_answer p##_b_read(zk_b_state s, uint8_t select, const uint64_t *queue, size_t places, const uint8_t *map,     \
                            size_t bytes);                                                                              \
+    zk_looked p##_b_look(zk_b_state s, uint32_t place, const uint64_t *queue, size_t places, const uint8_t *map,       \
+                         size_t bytes);                                                                                \
     zk_b_answer p##_b_blank(zk_b_state s, uint32_t slots, uint64_t *queue, size_t places, uint8_t *map, size_t bytes); \
     zk_b_shown p##_b_pixel(zk_b_state s, uint8_t mode, uint32_t word, const uint64_t *queue, size_t places,            \
                            const uint8_t *map, size_t bytes);                                                          \
@@ -31,6 +36,7 @@
     zk_b_answer p##_b_reset(zk_b_state s, uint64_t *queue, size_t places);                                             \
     zk_c_answer p##_c_write(zk_c_state s, uint8_t port, uint8_t byte, uint16_t *table, size_t length);                 \
     zk_c_answer p##_c_read(zk_c_state s, uint8_t port, const uint16_t *table, size_t length);                          \
+    zk_looked p##_c_look(zk_c_state s, uint32_t place, const uint16_t *table, size_t length);                          \
     zk_c_answer p##_c_reset(zk_c_state s);                                                                             \
     uint64_t p##_sheet_to_calls(const uint8_t *sheet, size_t sheet_length, uint8_t *calls, size_t calls_length);       \
     uint64_t p##_sheet_write(zk_a_state s, const uint8_t *colours, size_t colours_length, const uint8_t *overlays,     \
@@ -38,6 +44,11 @@
 
 PLAIN_CALLS(plain)
 PLAIN_CALLS(bare)
+
+static inline zk_looked looked(unsigned refusal, unsigned value) {
+    zk_looked l = {(uint8_t)refusal, (uint16_t)value};
+    return l;
+}
 
 #ifdef CHECKED
 #if CHECKED

@@ -1,4 +1,4 @@
-/* Chip A in plain C, from document 01, "Chip A". */
+/* Chip A in plain C, from document 01, "Chip A", and document 02, P5. */
 #include "plain.h"
 
 static unsigned on_time(unsigned timing) { return 4 * ((timing & 15) + 1); }
@@ -80,6 +80,27 @@ zk_a_answer NAME(a_read)(zk_a_state s, uint8_t select, const uint8_t *colours, s
     case 6: return answer(0, s.control, s);
     case 7: return answer(0, s.clock.timing, s);
     default: return answer(ZK_NO_ACCESS, 0, s);
+    }
+}
+
+zk_looked NAME(a_look)(zk_a_state s, uint32_t place, const uint8_t *colours, size_t colours_length,
+                       const uint8_t *overlays, size_t overlays_length) {
+    unsigned refusal = standing(s, colours_length, overlays_length);
+    uint32_t colour = place - ZK_A_LOOK_COLOURS, overlay = place - ZK_A_LOOK_OVERLAYS;
+    if (refusal != 0) return looked(refusal, 0);
+    if (colour < ZK_A_COLOURS) return looked(0, colours[colour]);
+    if (overlay < ZK_A_OVERLAYS) return looked(0, overlays[overlay]);
+    switch (place) {
+    case ZK_A_LOOK_ADDRESS: return looked(0, s.address);
+    case ZK_A_LOOK_POINTER: return looked(0, s.pointer);
+    case ZK_A_LOOK_RED: return looked(0, s.red);
+    case ZK_A_LOOK_GREEN: return looked(0, s.green);
+    case ZK_A_LOOK_READMASK: return looked(0, s.readmask);
+    case ZK_A_LOOK_BLINKMASK: return looked(0, s.blinkmask);
+    case ZK_A_LOOK_CONTROL: return looked(0, s.control);
+    case ZK_A_LOOK_TIMING: return looked(0, s.clock.timing);
+    case ZK_A_LOOK_POSITION: return looked(0, s.clock.position);
+    default: return looked(ZK_NO_ACCESS, 0);
     }
 }
 

@@ -1,4 +1,4 @@
-/* Chip B in plain C, from document 01, "Chip B". */
+/* Chip B in plain C, from document 01, "Chip B", and document 02, P5. */
 #include "plain.h"
 
 #include <string.h>
@@ -113,6 +113,27 @@ zk_b_answer NAME(b_read)(zk_b_state s, uint8_t select, const uint64_t *queue, si
     case 6: return answer(0, s.ident.board << 4 | s.ident.revision, 0, s);
     case 7: s.control.readmode = 0; return answer(0, 0, 0, s);
     default: return answer(ZK_NO_ACCESS, 0, 0, s);
+    }
+}
+
+/* the map as stored, whatever waits */
+zk_looked NAME(b_look)(zk_b_state s, uint32_t place, const uint64_t *queue, size_t places, const uint8_t *map,
+                       size_t bytes) {
+    unsigned refusal = standing(s, queue, places, bytes);
+    uint32_t byte = place - ZK_B_LOOK_MAP;
+    if (refusal != 0) return looked(refusal, 0);
+    if (byte < ZK_B_MAP) return looked(0, map[byte]);
+    switch (place) {
+    case ZK_B_LOOK_ADDRESS: return looked(0, s.port.address);
+    case ZK_B_LOOK_COUNTER: return looked(0, s.port.counter);
+    case ZK_B_LOOK_RED: return looked(0, s.port.red);
+    case ZK_B_LOOK_GREEN: return looked(0, s.port.green);
+    case ZK_B_LOOK_COMMAND: return looked(0, s.control.command);
+    case ZK_B_LOOK_READMODE: return looked(0, s.control.readmode);
+    case ZK_B_LOOK_REVISION: return looked(0, s.ident.revision);
+    case ZK_B_LOOK_BOARD: return looked(0, s.ident.board);
+    case ZK_B_LOOK_WAITING: return looked(0, s.fifo.waiting);
+    default: return looked(ZK_NO_ACCESS, 0);
     }
 }
 

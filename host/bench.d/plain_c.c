@@ -1,4 +1,5 @@
-/* Chip C and the expanders in plain C, from document 01, "Chip C". The expanders are the rule, not a table. */
+/* Chip C and the expanders in plain C, from document 01, "Chip C", and document 02, P5. The expanders are the rule, not
+ * a table. */
 #include "plain.h"
 
 enum { NUMBERS = 3072, WRITE_SPACE = 0x4000, READ_SPACE = 0x8000, UPDATE_CONTROL = 0x000E, WRAI = 2, RDAI = 4 };
@@ -116,6 +117,24 @@ zk_c_answer NAME(c_read)(zk_c_state s, uint8_t port, const uint16_t *table, size
         if (in_space(s.index, READ_SPACE)) return palette_read(s, table);
         return answer(ZK_NO_INDEX, 0, s);
     default: return answer(ZK_NO_ACCESS, 0, s);
+    }
+}
+
+zk_looked NAME(c_look)(zk_c_state s, uint32_t place, const uint16_t *table, size_t length) {
+    unsigned refusal = standing(s, length);
+    uint32_t number = place - ZK_C_LOOK_TABLE;
+    if (refusal != 0) return looked(refusal, 0);
+    if (number < NUMBERS) return looked(0, table[number]);
+    switch (place) {
+    case ZK_C_LOOK_INDEX: return looked(0, s.index);
+    case ZK_C_LOOK_PLACE: return looked(0, s.place);
+    case ZK_C_LOOK_RED: return looked(0, s.red);
+    case ZK_C_LOOK_GREEN: return looked(0, s.green);
+    case ZK_C_LOOK_FETCHED_RED: return looked(0, s.fetched.red);
+    case ZK_C_LOOK_FETCHED_GREEN: return looked(0, s.fetched.green);
+    case ZK_C_LOOK_FETCHED_BLUE: return looked(0, s.fetched.blue);
+    case ZK_C_LOOK_UPDATE: return looked(0, s.update);
+    default: return looked(ZK_NO_ACCESS, 0);
     }
 }
 

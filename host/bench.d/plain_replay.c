@@ -105,6 +105,14 @@ static void read_line(uint8_t select) {
     else value(v);
 }
 
+static void look_line(uint32_t place) {
+    zk_looked r = chosen == 0   ? NAME(a_look)(a, place, colours, sizeof colours, overlays, sizeof overlays)
+                  : chosen == 1 ? NAME(b_look)(b, place, queue, ZK_B_PLACES, map, sizeof map)
+                                : NAME(c_look)(c, place, table, 3072);
+    if (r.refusal != 0) refused(r.refusal);
+    else SAY_HEX("look=", r.value, 4);
+}
+
 static void reset_line(void) {
     unsigned refusal = 0;
     if (chosen == 0) {
@@ -185,7 +193,7 @@ static int word_line(const uint8_t *t, size_t n) {
     return 0;
 }
 
-/* pixel=, blank=, sync=, expand= */
+/* pixel=, blank=, sync=, expand=, look= */
 static int number_line(const uint8_t *t, size_t n) {
     uint32_t u, v, w;
     if (n == 10 && chosen == 0 && memcmp(t, "pixel=", 6) == 0) {
@@ -201,6 +209,7 @@ static int number_line(const uint8_t *t, size_t n) {
     }
     if (n == 12 && memcmp(t, "expand=", 7) == 0 && hex(t + 7, 1, &u) && (u == 6 || u == 8) && hex(t + 8, 4, &v))
         return expand_line(u, v), 1;
+    if (n == 10 && memcmp(t, "look=", 5) == 0 && hex(t + 5, 5, &u)) return look_line(u), 1;
     return 0;
 }
 

@@ -22,6 +22,10 @@ static void see_b(struct seen *seen, const zk_b_answer *a) {
         see(seen, a, sizeof *a, a->refusal);
     }
 }
+static void see_look(struct seen *seen, zk_looked l) {
+    struct flat_look flat = flat_look(l);
+    see(seen, &flat, sizeof flat, l.refusal);
+}
 #define SEE(a) see(seen, &(a), sizeof(a), (a).refusal)
 #define SEE_B(a) see_b(seen, &(a))
 #define TABLES lent->colours, sizeof lent->colours, lent->overlays, sizeof lent->overlays
@@ -62,6 +66,25 @@ static void a_registers(struct lent *lent, struct seen *seen) {
         a = CALL(a_read)(a.state, select, TABLES);
         SEE(a);
     }
+}
+
+static const zk_a_state look_a = {16, 1, 2, 3, 4, 5, 6, {7, 8}};
+
+static void a_read_registers(struct lent *lent, struct seen *seen) {
+    static const uint8_t selects[5] = {0, 4, 5, 6, 7};
+    zk_a_answer a = {0, 0, look_a};
+    for (unsigned i = 0; i < 160; i++) {
+        a = CALL(a_read)(a.state, selects[i % 5], TABLES);
+        SEE(a);
+    }
+}
+
+static void a_look_state(struct lent *lent, struct seen *seen) {
+    for (uint32_t i = 0; i < 180; i++) see_look(seen, CALL(a_look)(look_a, i % 9, TABLES));
+}
+static void a_look_tables(struct lent *lent, struct seen *seen) {
+    for (uint32_t i = 0; i < ZK_A_OVERLAYS; i++) see_look(seen, CALL(a_look)(look_a, ZK_A_LOOK_OVERLAYS + i, TABLES));
+    for (uint32_t i = 0; i < ZK_A_COLOURS; i++) see_look(seen, CALL(a_look)(look_a, ZK_A_LOOK_COLOURS + i, TABLES));
 }
 
 static void a_tick(struct lent *lent, struct seen *seen) {
@@ -139,6 +162,26 @@ static void b_read_status(struct lent *lent, struct seen *seen) {
     }
 }
 
+static void b_read_registers(struct lent *lent, struct seen *seen) {
+    static const uint8_t selects[4] = {0, 1, 3, 6};
+    zk_b_answer a = {0, 0, 0, with_waiting(lent, 0)};
+    for (unsigned i = 0; i < 192; i++) {
+        a = CALL(b_read)(a.state, selects[i % 4], QUEUE, MAP);
+        SEE_B(a);
+    }
+}
+
+static void b_look_state(struct lent *lent, struct seen *seen) {
+    zk_b_state s = with_waiting(lent, 0);
+    for (uint32_t i = 0; i < 180; i++) see_look(seen, CALL(b_look)(s, i % 9, QUEUE, MAP));
+}
+static void look_map(struct lent *lent, struct seen *seen, unsigned waiting) {
+    zk_b_state s = with_waiting(lent, waiting);
+    for (uint32_t i = 0; i < 768; i++) see_look(seen, CALL(b_look)(s, ZK_B_LOOK_MAP + 32 * i + i % 32, QUEUE, MAP));
+}
+static void b_look_map(struct lent *lent, struct seen *seen) { look_map(lent, seen, 0); }
+static void b_look_map_waiting(struct lent *lent, struct seen *seen) { look_map(lent, seen, 33); }
+
 static void pixel_b(struct lent *lent, struct seen *seen, unsigned waiting, uint8_t mode) {
     zk_b_state s = with_waiting(lent, waiting);
     for (uint32_t i = 0; i < 256; i++) {
@@ -186,6 +229,23 @@ static void c_read_table(struct lent *lent, struct seen *seen) {
     }
 }
 
+static const zk_c_state look_c = {0x8005, 1001, 502, {303, 104, 905}, 0, 6};
+
+static void c_read_index(struct lent *lent, struct seen *seen) {
+    zk_c_answer a = {0, 0, look_c};
+    for (unsigned i = 0; i < 192; i++) {
+        a = CALL(c_read)(a.state, 4 + i % 2, TABLE);
+        SEE(a);
+    }
+}
+
+static void c_look_state(struct lent *lent, struct seen *seen) {
+    for (uint32_t i = 0; i < 160; i++) see_look(seen, CALL(c_look)(look_c, i % 8, TABLE));
+}
+static void c_look_table(struct lent *lent, struct seen *seen) {
+    for (uint32_t i = 0; i < 3072; i++) see_look(seen, CALL(c_look)(look_c, ZK_C_LOOK_TABLE + i, TABLE));
+}
+
 static void see_number(struct seen *seen, uint64_t answer) { see(seen, &answer, sizeof answer, zk_refusal(answer)); }
 
 static void expand_8(struct lent *lent, struct seen *seen) {
@@ -218,6 +278,31 @@ static void sheet_writer(struct lent *lent, struct seen *seen) {
         see_number(seen, CALL(sheet_write)(s, TABLES, lent->sheet, sizeof lent->sheet));
 }
 
+/* ---- single calls, in states that accept every read; on B none waits, on C port 6 is register 0x000E */
+static void single(struct lent *lent, struct seen *seen, struct single call) {
+    zk_b_state b = with_waiting(lent, 0);
+    zk_c_state c = look_c;
+    b.control.readmode = 1;
+    c.index = 0x000e;
+    if (call.chip == 'a' && call.look) {
+        see_look(seen, CALL(a_look)(look_a, call.at, TABLES));
+    } else if (call.chip == 'a') {
+        zk_a_answer a = CALL(a_read)(look_a, (uint8_t)call.at, TABLES);
+        SEE(a);
+    } else if (call.chip == 'b' && call.look) {
+        see_look(seen, CALL(b_look)(b, call.at, QUEUE, MAP));
+    } else if (call.chip == 'b') {
+        zk_b_answer a = CALL(b_read)(b, (uint8_t)call.at, QUEUE, MAP);
+        SEE_B(a);
+    } else if (call.look) {
+        see_look(seen, CALL(c_look)(c, call.at, TABLE));
+    } else {
+        zk_c_answer a = CALL(c_read)(c, (uint8_t)call.at, TABLE);
+        SEE(a);
+    }
+}
+run_single *const CALL(single) = single;
+
 #define A_TESTS "2 lengths, 5 ranges of the state"
 #define B_TESTS "2 lengths, 7 ranges of the state, 64 places of the queue"
 #define C_TESTS "the length, 6 ranges of the state"
@@ -226,6 +311,9 @@ const struct work CALL(works)[WORKS] = {
     {"A write, 4 overlays", a_write_overlays, 1, A_TESTS},
     {"A read, 256 colours", a_read_colours, 1, A_TESTS},
     {"A read, 4 overlays", a_read_overlays, 1, A_TESTS},
+    {"A read, registers", a_read_registers, 1, A_TESTS},
+    {"A look, state", a_look_state, 1, A_TESTS},
+    {"A look, tables", a_look_tables, 1, A_TESTS},
     {"A write and read, registers", a_registers, 1, A_TESTS},
     {"A tick, lent clock", a_tick, 1, "1 range of the clock"},
     {"A pixel, colour", a_pixel_colour, 1, A_TESTS ", 2 of the pixel"},
@@ -238,12 +326,19 @@ const struct work CALL(works)[WORKS] = {
     {"B blank, none waiting", b_blank_none, 1, B_TESTS ", the slots"},
     {"B read, map", b_read_map, 1, B_TESTS},
     {"B read, status, 33 waiting", b_read_status, 1, B_TESTS},
+    {"B read, registers", b_read_registers, 1, B_TESTS},
+    {"B look, state", b_look_state, 1, B_TESTS},
+    {"B look, map", b_look_map, 1, B_TESTS},
+    {"B look, map, 33 waiting", b_look_map_waiting, 1, B_TESTS},
     {"B pixel, mode 0", b_pixel_0, 1, B_TESTS ", mode and word"},
     {"B pixel, mode 0, 33 waiting", b_pixel_0_waiting, 1, B_TESTS ", mode and word"},
     {"B pixel, modes 1 to 3", b_pixel_123, 1, B_TESTS ", mode and word"},
     {"B timing signals", b_sync, 1, "1 length, 7 ranges of the state, 64 places of the queue, the signals"},
     {"C write, 1,024 colours", c_write_table, 1, C_TESTS},
     {"C read, 1,024 colours", c_read_table, 1, C_TESTS},
+    {"C read, index", c_read_index, 1, C_TESTS},
+    {"C look, state", c_look_state, 1, C_TESTS},
+    {"C look, table", c_look_table, 1, C_TESTS},
     {"expand, 8 bits", expand_8, 1, "the component"},
     {"expand, 6 bits", expand_6, 1, "the component"},
     {"sheet to calls, 265 lines", sheet_whole, 0, "every byte of the text, the buffer's length"},

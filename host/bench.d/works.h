@@ -33,6 +33,15 @@ static inline struct flat_b flat_b(zk_b_answer a) {
     return flat;
 }
 
+/* The numbers of a look's answer, without the byte between them. */
+struct flat_look {
+    uint16_t numbers[2];
+};
+static inline struct flat_look flat_look(zk_looked l) {
+    struct flat_look flat = {{l.refusal, l.value}};
+    return flat;
+}
+
 struct work {
     const char *name;
     void (*run)(struct lent *, struct seen *);
@@ -40,8 +49,18 @@ struct work {
     const char *validates; /* what each call tests */
 };
 
-enum { WORKS = 28 };
+enum { WORKS = 38 };
 extern const struct work zk_works[WORKS], plain_works[WORKS], bare_works[WORKS];
+
+/* One accepted call, counted by itself: on chip a, b or c a read of a select or port, or a look at a place. It is run
+ * through a pointer, since callgrind takes a function whose name starts in zk_ for a call of the library. */
+struct single {
+    char chip;
+    int look;
+    uint32_t at;
+};
+typedef void run_single(struct lent *, struct seen *, struct single);
+extern run_single *const zk_single, *const plain_single, *const bare_single;
 
 /* calls on any input, good and bad: compared, not measured */
 void zk_any(struct lent *, struct seen *);

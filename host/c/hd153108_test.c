@@ -1,5 +1,6 @@
 /* Chip A against plain C of its own, written from source document 003 and document 01: every select, pointer, blink
- * clock and mask, states in and out of range, tables of wrong lengths. Every field and every lent byte is compared. */
+ * clock and mask, states in and out of range, tables of wrong lengths. Every field and every lent byte is compared. The
+ * look, from document 02, P5: every place, both sides of each block, what it must not move. */
 #include "check.h"
 #include "zikombaru.h"
 
@@ -79,6 +80,29 @@ static zk_a_answer read_again(zk_a_state s, int select, const struct tables *t) 
     return a;
 }
 
+static int in_block(uint32_t place, uint32_t first, uint32_t n) { return place >= first && place < first + n; }
+
+static zk_looked look_again(zk_a_state s, uint32_t place, const struct tables *t) {
+    zk_looked l = {0, 0};
+    int overlay = in_block(place, 0x100, 12), colour = in_block(place, 0x1000, 768);
+    l.refusal = (uint8_t)refusal_of(s, t, 1, place <= 8 || overlay || colour);
+    if (l.refusal != 0) return l;
+    if (overlay) l.value = t->overlays[place - 0x100];
+    if (colour) l.value = t->colours[place - 0x1000];
+    switch (place) {
+    case 0: l.value = s.address; break;
+    case 1: l.value = s.pointer; break;
+    case 2: l.value = s.red; break;
+    case 3: l.value = s.green; break;
+    case 4: l.value = s.readmask; break;
+    case 5: l.value = s.blinkmask; break;
+    case 6: l.value = s.control; break;
+    case 7: l.value = s.clock.timing; break;
+    case 8: l.value = s.clock.position; break;
+    }
+    return l;
+}
+
 /* line by line: masked by a read mask bit of 1; in the off time by a blink mask bit of 0 */
 static int through(int lines, int value, int read, int blink, int off) {
     int shown = 0;
@@ -111,15 +135,16 @@ static const size_t colour_sizes[] = {768, 0, 1, 767, 769, 1024}, overlay_sizes[
 static struct tables lent[COLOUR_SIZES][OVERLAY_SIZES];
 static uint8_t colours_again[1024], overlays_again[1024];
 
+static struct tables new_tables(size_t colour_bytes, size_t overlay_bytes) {
+    struct tables t = {check_guarded(colour_bytes), check_guarded(overlay_bytes), colour_bytes, overlay_bytes};
+    for (size_t k = 0; k < colour_bytes; k++) t.colours[k] = (uint8_t)check_random();
+    for (size_t k = 0; k < overlay_bytes; k++) t.overlays[k] = (uint8_t)check_random();
+    return t;
+}
+
 static void make_tables(void) {
     for (size_t i = 0; i < COLOUR_SIZES; i++)
-        for (size_t j = 0; j < OVERLAY_SIZES; j++) {
-            struct tables t = {NULL, NULL, colour_sizes[i], overlay_sizes[j]};
-            t.colours = check_guarded(t.colour_bytes), t.overlays = check_guarded(t.overlay_bytes);
-            for (size_t k = 0; k < t.colour_bytes; k++) t.colours[k] = (uint8_t)check_random();
-            for (size_t k = 0; k < t.overlay_bytes; k++) t.overlays[k] = (uint8_t)check_random();
-            lent[i][j] = t;
-        }
+        for (size_t j = 0; j < OVERLAY_SIZES; j++) lent[i][j] = new_tables(colour_sizes[i], overlay_sizes[j]);
 }
 
 /* what the tables hold before a call, and, once the call is made again on it, what they should hold after */
@@ -153,6 +178,16 @@ static zk_a_state any_state(void) {
         }
     }
     return s;
+}
+
+/* a place near the start or the end of a block, in it, or any number of 32 bits */
+static uint32_t some_place(void) {
+    static const uint32_t firsts[] = {0, 0x100, 0x1000}, lengths[] = {9, 12, 768};
+    uint32_t block = check_below(3), kind = check_below(8);
+    if (kind == 0) return (uint32_t)check_random();
+    if (kind == 1) return firsts[block] + check_below(3) - 1;
+    if (kind == 2) return firsts[block] + lengths[block] + check_below(3) - 1;
+    return firsts[block] + check_below(lengths[block]);
 }
 
 static unsigned long met[10];
@@ -204,6 +239,20 @@ static zk_a_state one_read(zk_a_state s, int select, const struct tables *t) {
     return got.state;
 }
 
+/* a look, and all that it must leave as it was */
+static void one_look(zk_a_state s, uint32_t place, const struct tables *t) {
+    keep(t);
+    zk_a_state given = s;
+    zk_looked want = look_again(s, place, t);
+    zk_looked got = zk_a_look(s, place, t->colours, t->colour_bytes, t->overlays, t->overlay_bytes);
+    CHECK(got.refusal == want.refusal && got.value == want.value,
+          "look %05lx " SHOW ": refusal %u value %04x, not %u %04x", (unsigned long)place, SHOWN(s, 0, 0, t),
+          got.refusal, got.value, want.refusal, want.value);
+    CHECK(same_state(s, given) && same_tables(t), "look %05lx " SHOW ": state or tables", (unsigned long)place,
+          SHOWN(s, 0, 0, t));
+    met[want.refusal]++;
+}
+
 static void one_pixel(zk_a_state s, int enable, int number, int byte, const struct tables *t) {
     keep(t);
     zk_a_shown want = pixel_again(s, t, enable, number, byte);
@@ -246,6 +295,7 @@ static void any_state_and_length(void) {
         int select = (int)(check_below(2) ? check_below(9) : check_below(256));
         one_write(any_state(), select, (uint8_t)check_random(), t);
         one_read(any_state(), select, t);
+        one_look(any_state(), some_place(), t);
         one_pixel(any_state(), (int)check_below(4), (int)check_below(6), (int)check_below(256), t);
     }
     met_often(0), met_often(1), met_often(3), met_often(9);
@@ -274,8 +324,117 @@ static void runs_of_calls(void) {
             s = check_below(4) ? one_write(s, select, (uint8_t)check_random(), &lent[0][0])
                                : one_read(s, select, &lent[0][0]);
             CHECK(state_good(s), "a run left its ranges");
+            one_look(s, some_place(), &lent[0][0]);
         }
     }
+}
+
+/* what a look answers as one number: the value, and above its 16 bits the refusal */
+#define REFUSED(n) ((uint32_t)(n) << 16)
+static uint32_t looked(zk_a_state s, uint32_t place, const struct tables *t) {
+    zk_looked l = zk_a_look(s, place, t->colours, t->colour_bytes, t->overlays, t->overlay_bytes);
+    return REFUSED(l.refusal) | l.value;
+}
+
+/* a state of nine different numbers, and tables whose bytes hold their own places, the low byte first and then the
+ * high one: no two bytes are alike in both rounds */
+static void every_place_of_a_look(void) {
+    static const zk_a_state s = {0x91, 2, 13, 7, 0xa5, 0x3c, 0x4a, {0xe4, 0x35}};
+    static const uint32_t numbers[9] = {0x91, 2, 13, 7, 0xa5, 0x3c, 0x4a, 0xe4, 0x35};
+    struct tables t = new_tables(768, 12);
+    for (int shift = 0; shift <= 8; shift += 8) {
+        for (uint32_t i = 0; i < 12; i++) t.overlays[i] = (uint8_t)((0x100 + i) >> shift);
+        for (uint32_t i = 0; i < 768; i++) t.colours[i] = (uint8_t)((0x1000 + i) >> shift);
+        for (uint32_t place = 0; place < 0x1400; place++) {
+            int there = in_block(place, 0x100, 12) || in_block(place, 0x1000, 768);
+            uint32_t want = place <= 8 ? numbers[place] : there ? place >> shift & 0xff : REFUSED(3);
+            CHECK(looked(s, place, &t) == want, "place %04x: %06x, not %06x", (unsigned)place,
+                  (unsigned)looked(s, place, &t), (unsigned)want);
+            one_look(s, place, &t);
+        }
+    }
+}
+
+/* the header's names, in the order of the places */
+static void names_of_the_places(void) {
+    static const int names[9] = {ZK_A_LOOK_ADDRESS, ZK_A_LOOK_POINTER,  ZK_A_LOOK_RED,
+                                 ZK_A_LOOK_GREEN,   ZK_A_LOOK_READMASK, ZK_A_LOOK_BLINKMASK,
+                                 ZK_A_LOOK_CONTROL, ZK_A_LOOK_TIMING,   ZK_A_LOOK_POSITION};
+    for (int i = 0; i < 9; i++) CHECK(names[i] == i, "the name of place %d is %d", i, names[i]);
+    CHECK(ZK_A_LOOK_OVERLAYS == 0x100 && ZK_A_LOOK_COLOURS == 0x1000, "the names of the tables");
+}
+
+static void places_that_are_not_there(void) {
+    static const uint32_t there[] = {0, 8, 0x100, 0x10b, 0x1000, 0x12ff};
+    static const uint32_t edges[] = {9, 0xff, 0x10c, 0xfff, 0x1300, 0xffff, 0x10000, 0x10100, 0x11000, 0xffffffff};
+    const struct tables *t = &lent[0][0];
+    for (unsigned i = 0; i < sizeof there / sizeof *there; i++) {
+        CHECK(looked(good_state(), there[i], t) <= 0xff, "place %lx is there", (unsigned long)there[i]);
+        for (int bit = 13; bit < 32; bit++) { /* no bit above the places is dropped */
+            uint32_t place = there[i] | (uint32_t)1 << bit;
+            CHECK(looked(good_state(), place, t) == REFUSED(3), "place %lx is not there", (unsigned long)place);
+        }
+    }
+    for (unsigned i = 0; i < sizeof edges / sizeof *edges; i++)
+        CHECK(looked(good_state(), edges[i], t) == REFUSED(3), "place %lx is not there", (unsigned long)edges[i]);
+}
+
+/* a good state with one field just out of its range, each in turn; the last stays good */
+static zk_a_state spoilt(int field) {
+    zk_a_state s = good_state();
+    switch (field) {
+    case 0: s.pointer = 3; break;
+    case 1: s.red = 16; break;
+    case 2: s.green = 16; break;
+    case 3: s.control |= 0x10; break;
+    case 4: s.control |= 0x20; break;
+    case 5: s.control |= 0x80; break;
+    case 6: s.clock.position = (uint8_t)all_ticks(s.clock.timing); break;
+    }
+    return s;
+}
+
+/* 1 before 9 before 3: tables of all lengths, states in range and out of it, places that are there and that are not */
+static void refusals_of_a_look(void) {
+    static const uint32_t places[2][4] = {{0, 8, 0x10b, 0x1000}, {9, 0x10c, 0x1300, 0xffffffff}};
+    for (size_t i = 0; i < COLOUR_SIZES; i++)
+        for (size_t j = 0; j < OVERLAY_SIZES; j++)
+            for (int field = 0; field < 8; field++)
+                for (int p = 0; p < 8; p++) {
+                    zk_a_state s = spoilt(field);
+                    uint32_t place = places[p / 4][p % 4], got = looked(s, place, &lent[i][j]);
+                    uint32_t want = i + j > 0 ? 1 : field < 7 ? 9 : p / 4 ? 3 : 0;
+                    CHECK(want ? got == REFUSED(want) : got <= 0xff, "look %lx " SHOW ": %06lx, not refusal %lu",
+                          (unsigned long)place, SHOWN(s, 0, 0, &lent[i][j]), (unsigned long)got, (unsigned long)want);
+                    one_look(s, place, &lent[i][j]);
+                }
+}
+
+/* The entry of address 0x10 after red 3, the address read by a look or by select 0, green 7 and blue 2; and after one
+ * more write, the next colour's red 1. */
+static void a_colour(int by_look, const uint8_t entry[3], const uint8_t one_more[3]) {
+    struct tables t = new_tables(768, 12);
+    zk_a_state s = zk_a_reset(good_state()).state;
+    memset(t.colours, 0, t.colour_bytes);
+    s = one_write(s, 0, 0x10, &t), s = one_write(s, 1, 0x03, &t);
+    CHECK(looked(s, ZK_A_LOOK_ADDRESS, &t) == 0x10 && looked(s, ZK_A_LOOK_POINTER, &t) == 1, "0x10, green comes next");
+    if (by_look)
+        one_look(s, ZK_A_LOOK_ADDRESS, &t);
+    else
+        s = one_read(s, 0, &t);
+    s = one_write(s, 1, 0x07, &t), s = one_write(s, 1, 0x02, &t);
+    CHECK(memcmp(t.colours + 0x30, entry, 3) == 0, "entry 0x10 is %u, %u, %u, not %u, %u, %u", t.colours[0x30],
+          t.colours[0x31], t.colours[0x32], entry[0], entry[1], entry[2]);
+    for (uint32_t i = 0; i < 3; i++)
+        CHECK(looked(s, ZK_A_LOOK_COLOURS + 0x30 + i, &t) == entry[i], "a look at byte %u of it", (unsigned)i);
+    one_write(s, 1, 0x01, &t);
+    CHECK(memcmp(t.colours + 0x30, one_more, 3) == 0, "entry 0x10 then, by %s", by_look ? "look" : "select 0");
+}
+
+static void a_look_tears_no_colour(void) {
+    static const uint8_t black[3] = {0, 0, 0}, colour[3] = {3, 7, 2}, torn[3] = {7, 2, 1};
+    a_colour(1, colour, colour);
+    a_colour(0, black, torn);
 }
 
 static void reset_from_any_state(void) {
@@ -347,6 +506,11 @@ int main(void) {
     RUN(any_state_and_length);
     RUN(every_entry);
     RUN(runs_of_calls);
+    RUN(every_place_of_a_look);
+    RUN(names_of_the_places);
+    RUN(places_that_are_not_there);
+    RUN(refusals_of_a_look);
+    RUN(a_look_tears_no_colour);
     RUN(reset_from_any_state);
     RUN(every_clock);
     RUN(every_pixel);

@@ -1,5 +1,6 @@
 /* Chip B, the MS622424, against a plain C model written from source document 004 and document 01: every field of every
- * answer and every place and byte of both tables, on good and bad states, lengths and arguments. */
+ * answer and every place and byte of both tables, on good and bad states, lengths and arguments. The look, from
+ * document 02, P5: every place, both sides of each block, with entries waiting and in read mode. */
 #include "check.h"
 #include "zikombaru.h"
 
@@ -110,6 +111,17 @@ static zk_b_answer model_read(zk_b_state s, int select) {
     return answer(0, value, 0, s);
 }
 
+static zk_looked model_look(zk_b_state s, uint32_t place) {
+    const int numbers[9] = {s.port.address,     s.port.counter,   s.port.red,    s.port.green,  s.control.command,
+                            s.control.readmode, s.ident.revision, s.ident.board, s.fifo.waiting};
+    int refusal = standing(s, 1), in_map = place >= 0x10000 && place <= 0x15fff;
+    zk_looked l = {0, 0};
+    if (!refusal && place > 8 && !in_map) refusal = 3;
+    l.refusal = (uint8_t)refusal;
+    if (!refusal) l.value = (uint16_t)(in_map ? want_map[place - 0x10000] : numbers[place]);
+    return l;
+}
+
 static zk_b_answer model_blank(zk_b_state s, uint32_t slots) {
     int moved = 0, refusal = standing(s, 1);
     if (!refusal && slots > 65535) refusal = 9;
@@ -191,6 +203,17 @@ static zk_b_state try_reset(zk_b_state s) {
     zk_b_answer want = model_reset(s);
     return compare("reset", s.ident.revision, s.ident.board, zk_b_reset(s, queue, places), want);
 }
+/* a look, and all that it must leave as it was */
+static void try_look(zk_b_state s, uint32_t place) {
+    zk_b_state given = s;
+    zk_looked want = model_look(s, place), got = zk_b_look(s, place, queue, places, map, bytes);
+    CHECK(got.refusal == want.refusal && got.value == want.value, "look %lx: refusal %d value %04x, expected %d %04x",
+          (unsigned long)place, got.refusal, got.value, want.refusal, want.value);
+    CHECK(same_state(s, given) && memcmp(queue, want_queue, places * sizeof *queue) == 0
+              && memcmp(map, want_map, bytes) == 0,
+          "look %lx: another state, queue or map", (unsigned long)place);
+    met[want.refusal % 10]++;
+}
 static void try_pixel(zk_b_state s, int mode, uint32_t word) {
     zk_b_shown want = model_pixel(s, mode, word), got;
     got = zk_b_pixel(s, (uint8_t)mode, word, queue, places, map, bytes);
@@ -249,10 +272,22 @@ static zk_b_state spoilt(zk_b_state s, int kind) {
     return s;
 }
 
+/* a place near the start or the end of a block, in it, or any number of 32 bits */
+static uint32_t some_place(void) {
+    static const uint32_t edges[] = {8, 9, 0xffff, 0x10000, 0x15fff, 0x16000, UINT32_MAX};
+    switch (check_below(8)) {
+    case 0: return (uint32_t)check_random();
+    case 1: return edges[check_below(7)];
+    case 2: case 3: case 4: return check_below(9);
+    default: return 0x10000 + check_below(ZK_B_MAP);
+    }
+}
+
 /* every call once on a state; those that change the tables last */
 static void try_all(zk_b_state s) {
     int select = check_below(4) ? (int)check_below(9) : (int)(check_random() & 0xff);
     try_read(s, select);
+    try_look(s, some_place());
     try_sync(s, (int)check_below(20));
     try_pixel(s, (int)check_below(5), (uint32_t)check_random() & (check_below(8) ? 0xffffff : 0x1ffffff));
     switch (check_below(3)) {
@@ -271,6 +306,8 @@ static void the_layout(void) {
           offsetof(zk_b_state, fifo));
     CHECK(sizeof(zk_b_state) == 12 && sizeof(zk_b_answer) == 16 && offsetof(zk_b_answer, state) == 4,
           "a state of %zu bytes, an answer of %zu", sizeof(zk_b_state), sizeof(zk_b_answer));
+    CHECK(sizeof(zk_looked) == 4 && offsetof(zk_looked, value) == 2, "a look's answer of %zu bytes, its value at %zu",
+          sizeof(zk_looked), offsetof(zk_looked, value));
 }
 
 static void every_select_and_counter(void) {
@@ -346,10 +383,115 @@ static void a_run(void) {
         else if (n < 74) s = try_write(s, (int)check_below(8), (int)(check_random() & 0xff));
         else if (n < 84) s = try_read(s, (int)check_below(8));
         else if (n < 86) s = try_read(s, 7);
-        else if (n < 90) try_pixel(s, (int)check_below(4), (uint32_t)check_random() & 0xffffff);
+        else if (n < 88) try_pixel(s, (int)check_below(4), (uint32_t)check_random() & 0xffffff);
+        else if (n < 90) try_look(s, some_place());
         else if (n < 99) s = try_blank(s, check_below(6));
         else if (check_below(20) == 0) s = try_reset(s);
     }
+}
+
+/* what a look answers as one number: the value, and above its 16 bits the refusal */
+#define REFUSED(n) ((uint32_t)(n) << 16)
+static uint32_t looked(zk_b_state s, uint32_t place) {
+    zk_looked l = zk_b_look(s, place, queue, places, map, bytes);
+    return REFUSED(l.refusal) | l.value;
+}
+
+static void fill_map(unsigned (*byte)(unsigned)) {
+    for (unsigned i = 0; i < ZK_B_MAP; i++) map[i] = want_map[i] = (uint8_t)byte(i);
+}
+static unsigned low_byte(unsigned i) { return i & 0xff; }
+static unsigned high_byte(unsigned i) { return i >> 8; }
+static unsigned any_byte(unsigned i) { return (void)i, (unsigned)check_random() & 0xff; }
+
+/* A state of nine different numbers, in read mode, with entries waiting whose colours differ from what the map has at
+ * their addresses; and a map whose bytes hold their own numbers, the low byte first and then the high one: no two bytes
+ * are alike in both rounds. */
+static void every_place_of_a_look(void) {
+    static const zk_b_state s = {{0x1234, 2, 0x91, 0x7e}, {0x1b, 1}, {6, 13}, {33}};
+    static const uint32_t numbers[9] = {0x1234, 2, 0x91, 0x7e, 0x1b, 1, 6, 13, 33};
+    unsigned (*const rounds[2])(unsigned) = {low_byte, high_byte};
+    for (int round = 0; round < 2; round++) {
+        fill_map(rounds[round]);
+        for (unsigned i = 0; i < 64; i++) {
+            unsigned address = 0x1ff * i % 8192, first = 3 * address;
+            uint64_t e = zk_b_entry((uint16_t)address, (uint8_t)~map[first], (uint8_t)~map[first + 1],
+                                    (uint8_t)~map[first + 2]);
+            put_place((int)i, i < 33 ? e : 0);
+        }
+        for (uint32_t place = 0; place < 9; place++)
+            CHECK(looked(s, place) == numbers[place], "place %u: %06x", (unsigned)place, (unsigned)looked(s, place));
+        for (unsigned i = 0; i < ZK_B_MAP; i++)
+            CHECK(looked(s, ZK_B_LOOK_MAP + i) == rounds[round](i), "map byte %u: %06x", i,
+                  (unsigned)looked(s, ZK_B_LOOK_MAP + i));
+        for (uint32_t place = 0; place < 0x20000; place += 1 + check_below(80)) try_look(s, place);
+    }
+    fill_map(any_byte);
+}
+
+/* the header's names, in the order of the places */
+static void names_of_the_places(void) {
+    static const int names[9] = {ZK_B_LOOK_ADDRESS,  ZK_B_LOOK_COUNTER, ZK_B_LOOK_RED,
+                                 ZK_B_LOOK_GREEN,    ZK_B_LOOK_COMMAND, ZK_B_LOOK_READMODE,
+                                 ZK_B_LOOK_REVISION, ZK_B_LOOK_BOARD,   ZK_B_LOOK_WAITING};
+    for (int i = 0; i < 9; i++) CHECK(names[i] == i, "the name of place %d is %d", i, names[i]);
+    CHECK(ZK_B_LOOK_MAP == 0x10000, "the name of the map");
+}
+
+static void places_that_are_not_there(void) {
+    static const uint32_t there[] = {0, 8, 0x10000, 0x15fff};
+    static const uint32_t edges[] = {9, 0xff, 0x100, 0x1000, 0xffff, 0x10000 + 24576, 0x1ffff, 0x20000, 0xffffffff};
+    for (unsigned i = 0; i < sizeof there / sizeof *there; i++) {
+        CHECK(looked(good_state(some_waiting()), there[i]) < REFUSED(1), "place %lx is there", (unsigned long)there[i]);
+        for (int bit = 17; bit < 32; bit++) { /* no bit above the places is dropped */
+            uint32_t place = there[i] | (uint32_t)1 << bit;
+            CHECK(looked(good_state(some_waiting()), place) == REFUSED(3), "place %lx is not there",
+                  (unsigned long)place);
+        }
+    }
+    for (unsigned i = 0; i < sizeof edges / sizeof *edges; i++)
+        CHECK(looked(good_state(some_waiting()), edges[i]) == REFUSED(3), "place %lx is not there",
+              (unsigned long)edges[i]);
+}
+
+/* 1 before 9 before 3: lengths, then states of every kind out of range, then places that are there and that are not */
+static void refusals_of_a_look(void) {
+    static const size_t p[] = {0, 63, 65, 64}, b[] = {0, 24575, 24577, 24576};
+    static const uint32_t at[] = {0, 8, 0x10000, 0x15fff, 9, 0xffff, 0x16000, UINT32_MAX};
+    for (int n = 0; n < 16; n++) {
+        lend(p[n / 4], b[n % 4]);
+        for (int kind = -1; kind < 13; kind++)
+            for (int k = 0; k < 8; k++) {
+                zk_b_state s = good_state(33); /* some wait and some places are unused: each kind spoils it */
+                if (kind >= 0) s = spoilt(s, kind);
+                uint32_t got = looked(s, at[k]), want = n < 15 ? 1 : kind >= 0 ? 9 : k < 4 ? 0 : 3;
+                CHECK(want ? got == REFUSED(want) : got < REFUSED(1), "lengths %zu, %zu, kind %d, place %lx: %06lx",
+                      places, bytes, kind, (unsigned long)at[k], (unsigned long)got);
+                try_look(s, at[k]);
+            }
+    }
+}
+
+/* the map's byte before the colour that waits is moved, and after; in read mode and out of it */
+static void a_look_at_a_waiting_colour(void) {
+    zk_b_state s = try_reset(good_state(0));
+    uint8_t before[3];
+    memcpy(before, map + 3 * 0x305, 3);
+    s = try_write(s, 0, 0x05), s = try_write(s, 1, 0x03);
+    for (int i = 0; i < 3; i++) s = try_write(s, 2, before[i] ^ 0xff);
+    for (int mode = 0; mode < 2; mode++) {
+        if (mode) s = try_write(s, 7, 0);
+        CHECK(looked(s, ZK_B_LOOK_WAITING) == 1 && looked(s, ZK_B_LOOK_READMODE) == (uint32_t)mode, "one waits");
+        CHECK(looked(s, ZK_B_LOOK_ADDRESS) == 0x306 && looked(s, ZK_B_LOOK_COUNTER) == 0, "the next address");
+        CHECK(looked(s, ZK_B_LOOK_RED) == (before[0] ^ 0xffu) && looked(s, ZK_B_LOOK_GREEN) == (before[1] ^ 0xffu),
+              "the buffer");
+        for (uint32_t i = 0; i < 3; i++)
+            CHECK(looked(s, ZK_B_LOOK_MAP + 3 * 0x305 + i) == before[i], "byte %u as stored", (unsigned)i);
+    }
+    s = try_blank(s, 1);
+    CHECK(looked(s, ZK_B_LOOK_WAITING) == 0, "none waits");
+    for (uint32_t i = 0; i < 3; i++)
+        CHECK(looked(s, ZK_B_LOOK_MAP + 3 * 0x305 + i) == (before[i] ^ 0xffu), "byte %u as moved", (unsigned)i);
 }
 
 /* document 01's own lines */
@@ -382,6 +524,11 @@ int main(void) {
     RUN(every_pixel_entry);
     RUN(every_signal);
     RUN(a_run);
+    RUN(every_place_of_a_look);
+    RUN(names_of_the_places);
+    RUN(places_that_are_not_there);
+    RUN(refusals_of_a_look);
+    RUN(a_look_at_a_waiting_colour);
     RUN(the_documents_examples);
     RUN(refusals_met);
     FINISH();

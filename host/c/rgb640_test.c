@@ -1,5 +1,6 @@
 /* Chip C's calls against plain C written from source document 001 (9.1, 9.3, 9.4.1, 10.15, Tables 23 to 26) and
- * document 01, "Chip C". Every field of every answer and every number of the table is compared after each call. */
+ * document 01, "Chip C". Every field of every answer and every number of the table is compared after each call. The
+ * look, from document 02, P5: every place, both sides of each block, numbers as lent. */
 #include "check.h"
 #include "zikombaru.h"
 
@@ -97,10 +98,22 @@ static void chip_read(struct chip *c, unsigned port) {
     }
 }
 
+/* 1 and 9 as a read of port 4 has them */
+static void chip_look(struct chip *c, uint32_t place) {
+    const zk_c_state *s = &c->s;
+    const unsigned numbers[8] = {s->index,       s->place,         s->red,          s->green,
+                                 s->fetched.red, s->fetched.green, s->fetched.blue, s->update};
+    int in_table = place >= 0x10000 && place < 0x10000 + NUMBERS;
+    c->value = 0;
+    c->refusal = refusal(c, 4, 0);
+    if (c->refusal == 0 && place >= 8 && !in_table) c->refusal = ZK_NO_ACCESS;
+    if (c->refusal == 0) c->value = in_table ? c->table[place - 0x10000] : numbers[place];
+}
+
 /* ---- a call on both, compared */
 static struct chip model;
 static uint16_t *lent[NUMBERS + SLACK + 1]; /* a guarded buffer of each length that is used */
-static unsigned long met[2][10];            /* how often each refusal was met: by writes, by reads */
+static unsigned long met[3][10];            /* how often each refusal was met: by writes, by reads, by looks */
 
 static uint16_t *buffer(size_t length) {
     if (lent[length] == NULL) lent[length] = check_guarded(length * sizeof(uint16_t));
@@ -143,6 +156,20 @@ static void do_read(unsigned port) {
     met[1][model.refusal]++;
 }
 
+/* a look, and all that it must leave as it was */
+static void do_look(uint32_t place) {
+    zk_c_state given = model.s;
+    zk_looked l = zk_c_look(given, place, buffer(model.length), model.length);
+    chip_look(&model, place);
+    CHECK(l.refusal == model.refusal && l.value == model.value,
+          "look %lx at index %04x, %lu numbers: refusal %u for %u, value %04x for %04x", (unsigned long)place,
+          given.index, (unsigned long)model.length, l.refusal, model.refusal, l.value, model.value);
+    CHECK(same_state(given, model.s)
+              && memcmp(buffer(model.length), model.table, model.length * sizeof(uint16_t)) == 0,
+          "look %lx: another state or table", (unsigned long)place);
+    met[2][model.refusal]++;
+}
+
 /* ---- states */
 static uint16_t component(int good) { return (uint16_t)(good ? check_below(1024) : check_random() & 0xffff); }
 
@@ -170,6 +197,15 @@ static zk_c_state some_state(int good) {
 }
 
 static unsigned some_port(void) { return check_below(8) == 0 ? check_below(256) : 4 + check_below(3); }
+
+/* a place near the start or the end of a block, in it, or any number of 32 bits */
+static uint32_t some_place(void) {
+    static const uint32_t edges[] = {7, 8, 0xffff, 0x10000, 0x10bff, 0x10c00, UINT32_MAX};
+    uint32_t kind = check_below(8);
+    if (kind == 0) return (uint32_t)check_random();
+    if (kind == 1) return edges[check_below(7)];
+    return kind <= 4 ? check_below(8) : 0x10000 + check_below(NUMBERS);
+}
 
 /* ---- tests */
 static void every_index_and_place(void) {
@@ -213,6 +249,7 @@ static void one_field_out_of_range(void) {
                 do_write(some_port(), check_below(256));
                 model.s = s;
                 do_read(some_port());
+                do_look(some_place());
             }
 }
 
@@ -225,6 +262,8 @@ static void other_lengths(void) {
             do_write(some_port(), check_below(256));
             model.s = some_state(check_below(2) == 0);
             do_read(some_port());
+            model.s = some_state(check_below(2) == 0);
+            do_look(some_place());
         }
     }
 }
@@ -242,6 +281,7 @@ static void runs_of_calls(void) {
             if (kind == 4) model.s.index = some_index();
             if (kind > 4 && in_space(model.s.index, READ_SPACE)) do_read(6);
             if (kind > 4 && !in_space(model.s.index, READ_SPACE)) do_write(6, check_below(256));
+            if (kind < 8) do_look(some_place());
         }
     }
 }
@@ -266,6 +306,94 @@ static void reads_back(void) {
                       model.value, bytes[i]);
             }
         }
+}
+
+/* what a look answers as one number: the value, and above its 16 bits the refusal */
+#define REFUSED(n) ((uint32_t)(n) << 16)
+static uint32_t looked(zk_c_state s, uint32_t place) {
+    zk_looked l = zk_c_look(s, place, buffer(model.length), model.length);
+    return REFUSED(l.refusal) | l.value;
+}
+
+/* a state of eight different numbers, and a table of 3,072 different ones, most of them over 1,023 */
+static void every_place_of_a_look(void) {
+    static const zk_c_state s = {0x8123, 1001, 502, {303, 104, 905}, 2, 0xa6};
+    static const uint32_t numbers[8] = {0x8123, 2, 1001, 502, 303, 104, 905, 0xa6};
+    lend(NUMBERS, 1);
+    for (unsigned i = 0; i < NUMBERS; i++) buffer(NUMBERS)[i] = model.table[i] = (uint16_t)(65535 - 21 * i);
+    for (uint32_t place = 0; place < 8; place++)
+        CHECK(looked(s, place) == numbers[place], "place %u: %06x", (unsigned)place, (unsigned)looked(s, place));
+    for (unsigned i = 0; i < NUMBERS; i++)
+        CHECK(looked(s, ZK_C_LOOK_TABLE + i) == 65535 - 21 * i, "number %u: %06x", i,
+              (unsigned)looked(s, ZK_C_LOOK_TABLE + i));
+    model.s = s;
+    for (uint32_t place = 0; place < 0x20000; place += place < 0x10 ? 1 : 1 + check_below(16)) do_look(place);
+}
+
+/* the header's names, in the order of the places */
+static void names_of_the_places(void) {
+    static const int names[8] = {ZK_C_LOOK_INDEX,        ZK_C_LOOK_PLACE,       ZK_C_LOOK_RED,
+                                 ZK_C_LOOK_GREEN,        ZK_C_LOOK_FETCHED_RED, ZK_C_LOOK_FETCHED_GREEN,
+                                 ZK_C_LOOK_FETCHED_BLUE, ZK_C_LOOK_UPDATE};
+    for (int i = 0; i < 8; i++) CHECK(names[i] == i, "the name of place %d is %d", i, names[i]);
+    CHECK(ZK_C_LOOK_TABLE == 0x10000, "the name of the table");
+}
+
+static void places_that_are_not_there(void) {
+    static const uint32_t there[] = {0, 7, 0x10000, 0x10bff};
+    static const uint32_t edges[] = {8, 0x0e, 0xff, 0x4000, 0xffff, 0x10000 + 3072, 0x1ffff, 0x20000, 0xffffffff};
+    lend(NUMBERS, 1);
+    for (unsigned i = 0; i < sizeof there / sizeof *there; i++) {
+        CHECK(looked(some_state(1), there[i]) < REFUSED(1), "place %lx is there", (unsigned long)there[i]);
+        for (int bit = 17; bit < 32; bit++) { /* no bit above the places is dropped */
+            uint32_t place = there[i] | (uint32_t)1 << bit;
+            CHECK(looked(some_state(1), place) == REFUSED(3), "place %lx is not there", (unsigned long)place);
+        }
+    }
+    for (unsigned i = 0; i < sizeof edges / sizeof *edges; i++)
+        CHECK(looked(some_state(1), edges[i]) == REFUSED(3), "place %lx is not there", (unsigned long)edges[i]);
+}
+
+/* 1 before 9 before 3: lengths, then each field out of its range, then places that are there and that are not */
+static void refusals_of_a_look(void) {
+    static const size_t lengths[] = {0, 1, 1024, 3071, 3073, NUMBERS};
+    static const uint32_t at[] = {0, 7, 0x10000, 0x10bff, 8, 0xffff, 0x10c00, UINT32_MAX};
+    for (int n = 0; n < 6; n++) {
+        lend(lengths[n], 1);
+        for (int field = 0; field < 7; field++)
+            for (int k = 0; k < 8; k++) {
+                zk_c_state s = some_state(1);
+                if (field == 0) s.place = 3;
+                if (field == 1) s.red = 1024;
+                if (field == 2) s.green = 1024;
+                if (field == 3) s.fetched.red = 1024;
+                if (field == 4) s.fetched.green = 1024;
+                if (field == 5) s.fetched.blue = 1024;
+                uint32_t got = looked(s, at[k]), want = n < 5 ? 1 : field < 6 ? 9 : k < 4 ? 0 : 3;
+                CHECK(want ? got == REFUSED(want) : got < REFUSED(1), "%lu numbers, field %d, place %lx: %06lx",
+                      (unsigned long)lengths[n], field, (unsigned long)at[k], (unsigned long)got);
+                model.s = s;
+                do_look(at[k]);
+            }
+    }
+}
+
+/* reads step and fetch; looks before each, at the index, the order, the fetched entry and the lent one, leave it so */
+static void a_look_between_reads(void) {
+    lend(NUMBERS, 1);
+    memset(&model.s, 0, sizeof model.s);
+    point(READ_SPACE + 5);
+    for (unsigned i = 0; i < 9; i++) {
+        const uint16_t *entry = buffer(NUMBERS) + 15 + 3 * (i / 3);
+        CHECK(looked(model.s, ZK_C_LOOK_INDEX) == READ_SPACE + 5 + i / 3, "the index before read %u", i);
+        CHECK(looked(model.s, ZK_C_LOOK_PLACE) == i % 3, "the order before read %u", i);
+        for (uint32_t gun = 0; gun < 3; gun++) {
+            CHECK(looked(model.s, ZK_C_LOOK_FETCHED_RED + gun) == entry[gun] % 1024, "fetched before read %u", i);
+            CHECK(looked(model.s, ZK_C_LOOK_TABLE + 15 + i / 3 * 3 + gun) == entry[gun], "lent before read %u", i);
+        }
+        do_read(6);
+        CHECK(model.value == (unsigned)(entry[i % 3] % 1024 / 4), "read %u", i);
+    }
 }
 
 static void every_reset(void) {
@@ -298,10 +426,12 @@ static void documents_vectors(void) {
 
 static void each_refusal_was_met(void) {
     static const unsigned reachable[] = {0, ZK_LENT_LENGTH, ZK_OUT_OF_RANGE, ZK_NO_ACCESS, ZK_NO_INDEX};
-    for (int direction = 0; direction < 2; direction++)
-        for (unsigned i = 0; i < 5; i++)
-            CHECK(met[direction][reachable[i]] >= 1000, "refusal %u was met %lu times", reachable[i],
-                  met[direction][reachable[i]]);
+    for (int call = 0; call < 3; call++)
+        for (unsigned i = 0; i < 5; i++) {
+            unsigned long n = met[call][reachable[i]];
+            CHECK(call == 2 && reachable[i] == ZK_NO_INDEX ? n == 0 : n >= 1000, "refusal %u was met %lu times",
+                  reachable[i], n);
+        }
 }
 
 int main(void) {
@@ -313,6 +443,11 @@ int main(void) {
     RUN(other_lengths);
     RUN(runs_of_calls);
     RUN(reads_back);
+    RUN(every_place_of_a_look);
+    RUN(names_of_the_places);
+    RUN(places_that_are_not_there);
+    RUN(refusals_of_a_look);
+    RUN(a_look_between_reads);
     RUN(every_reset);
     RUN(each_refusal_was_met);
     FINISH();

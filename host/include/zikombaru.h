@@ -11,9 +11,12 @@
  *  - Refusals are the numbers of zk_refusal_number, 0 for none. A refused call changes no lent byte, hands a state back
  *    as it was given, and answers 0 for every value and count; a malformed sheet's refusal also tells the line.
  *  - States are plain structs that the caller owns. They go in by value, and the state after the call comes back in the
- *    answer. The chips' calls are in zikombaru_hd153108.h (zk_a_), zikombaru_ms622424.h (zk_b_), zikombaru_rgb640.h
- *    (zk_c_) and, for chip A's sheets, zikombaru_sheet.h (zk_sheet_), which this file brings.
- *  - Answers. A call that has no state answers one number of 64 bits: zk_refusal, zk_value, zk_count, zk_line read it.
+ *    answer of each call that may change it. The chips' calls are in zikombaru_hd153108.h (zk_a_),
+ *    zikombaru_ms622424.h (zk_b_), zikombaru_rgb640.h (zk_c_) and, for chip A's sheets, zikombaru_sheet.h (zk_sheet_),
+ *    which this file brings.
+ *  - Answers. The expanders and the calls on sheets answer one number of 64 bits: zk_refusal, zk_value, zk_count,
+ *    zk_line read it. The chips' calls answer a struct with the refusal first, or the refusal alone; a look, which
+ *    changes nothing, answers a zk_looked on each chip (zikombaru_look.h).
  */
 #ifndef ZIKOMBARU_H
 #define ZIKOMBARU_H
@@ -30,7 +33,7 @@ enum zk_refusal_number {
     ZK_ACCEPTED = 0,
     ZK_LENT_LENGTH = 1,   /* a lent table hasn't its length */
     ZK_OVER_FIFTEEN = 2,  /* the sheet writer meets a table byte over 15 */
-    ZK_NO_ACCESS = 3,     /* no such select or port, or an access that it does not have */
+    ZK_NO_ACCESS = 3,     /* no such select or port, an access that it does not have, or no such place of a look */
     ZK_NO_INDEX = 4,      /* RGB640: data access at an index that names nothing, or against its direction */
     ZK_READ_MODE = 5,     /* MS622424: write to 2 in read mode, read of 2 outside it */
     ZK_STILL_WAITING = 6, /* MS622424: read of 2 with entries waiting */

@@ -2,17 +2,19 @@
  * hold.
  *
  * The caller owns the state and both tables. A state goes in by value, and the state after the call comes back in the
- * answer. The tables are lent for the call: the colours are 768 bytes and the overlays 12, three bytes an entry, red
- * first; any length may be lent, and another is ZK_LENT_LENGTH. A refused call changes no lent byte and hands the
- * state back as it was given. A zeroed state is a good one: it is what a reset leaves.
+ * answer of each call that may change it. The tables are lent for the call: the colours are 768 bytes and the overlays
+ * 12, three bytes an entry, red first; any length may be lent, and another is ZK_LENT_LENGTH. A refused call changes no
+ * lent byte and hands the state back as it was given. A zeroed state is a good one: it is what a reset leaves.
  *
  * Refusals, tried in this order: ZK_LENT_LENGTH; ZK_OUT_OF_RANGE, a state or argument outside its range; ZK_NO_ACCESS,
- * a select over 7, or the reserved 2. */
+ * a select over 7, the reserved 2, or a place of a look that is not there. */
 #ifndef ZIKOMBARU_HD153108_H
 #define ZIKOMBARU_HD153108_H
 
 #include <stddef.h>
 #include <stdint.h>
+
+#include "zikombaru_look.h"
 
 #ifdef __cplusplus
 extern "C" {
@@ -63,6 +65,25 @@ zk_a_answer zk_a_write(zk_a_state state, uint8_t select, uint8_t byte, uint8_t *
 /* A read from a select. An address read sets the pointer to red, and a data read steps it as a write does. */
 zk_a_answer zk_a_read(zk_a_state state, uint8_t select, const uint8_t *colours, size_t colours_length,
                       const uint8_t *overlays, size_t overlays_length);
+
+/* The places of a look: one number each, but for the two tables, where byte i stands at the first place plus i. */
+enum zk_a_place {
+    ZK_A_LOOK_ADDRESS = 0x0,
+    ZK_A_LOOK_POINTER = 0x1,
+    ZK_A_LOOK_RED = 0x2,        /* latched */
+    ZK_A_LOOK_GREEN = 0x3,      /* latched */
+    ZK_A_LOOK_READMASK = 0x4,
+    ZK_A_LOOK_BLINKMASK = 0x5,
+    ZK_A_LOOK_CONTROL = 0x6,    /* overlay control */
+    ZK_A_LOOK_TIMING = 0x7,     /* of the blink clock */
+    ZK_A_LOOK_POSITION = 0x8,   /* of the blink clock */
+    ZK_A_LOOK_OVERLAYS = 0x100, /* the first overlay byte, of ZK_A_OVERLAYS */
+    ZK_A_LOOK_COLOURS = 0x1000  /* the first colour byte, of ZK_A_COLOURS */
+};
+
+/* A look at a place, which moves nothing: at the address and at data too it leaves the pointer where it stands. */
+zk_looked zk_a_look(zk_a_state state, uint32_t place, const uint8_t *colours, size_t colours_length,
+                    const uint8_t *overlays, size_t overlays_length);
 
 /* A reset, from any state: never refused, the state is zeroed. */
 zk_a_answer zk_a_reset(zk_a_state state);

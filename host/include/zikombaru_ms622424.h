@@ -1,7 +1,7 @@
 /* zikombaru_ms622424.h: chip B, the MS622424: 8,192 colours behind a queue of 64 waiting writes.
  *
- * The conventions of zikombaru.h hold. The caller keeps the state, and hands each call a copy; the answer brings the
- * state after the call. The caller owns both lent tables:
+ * The conventions of zikombaru.h hold. The caller keeps the state, and hands each call a copy; the answer of a call
+ * that may change it brings the state after the call. The caller owns both lent tables:
  *
  *  - queue, ZK_B_PLACES numbers: the waiting entries, the oldest first, one number an entry (zk_b_entry); the places
  *    behind the state's waiting ones are 0. A call that finds them otherwise is ZK_OUT_OF_RANGE.
@@ -14,6 +14,8 @@
 
 #include <stddef.h>
 #include <stdint.h>
+
+#include "zikombaru_look.h"
 
 #ifdef __cplusplus
 extern "C" {
@@ -84,6 +86,26 @@ zk_b_answer zk_b_write(zk_b_state state, uint8_t select, uint8_t byte, uint64_t 
 /* A read of a select, 0 to 7. */
 zk_b_answer zk_b_read(zk_b_state state, uint8_t select, const uint64_t *queue, size_t places, const uint8_t *map,
                       size_t bytes);
+
+/* The places of a look: one number each, but for the map, whose byte i stands at ZK_B_LOOK_MAP + i. The waiting entries
+ * are no places; how many wait is one. */
+enum zk_b_place {
+    ZK_B_LOOK_ADDRESS = 0x0,
+    ZK_B_LOOK_COUNTER = 0x1,
+    ZK_B_LOOK_RED = 0x2,   /* of the Color Buffer Register */
+    ZK_B_LOOK_GREEN = 0x3, /* of the Color Buffer Register */
+    ZK_B_LOOK_COMMAND = 0x4,
+    ZK_B_LOOK_READMODE = 0x5,
+    ZK_B_LOOK_REVISION = 0x6,
+    ZK_B_LOOK_BOARD = 0x7,
+    ZK_B_LOOK_WAITING = 0x8,
+    ZK_B_LOOK_MAP = 0x10000 /* the map's first byte, of ZK_B_MAP */
+};
+
+/* A look at a place, which moves nothing. It answers from the map as stored, whatever waits, in read mode or not:
+ * ZK_LENT_LENGTH, ZK_OUT_OF_RANGE and ZK_NO_ACCESS (no such place) are its only refusals, tried in this order. */
+zk_looked zk_b_look(zk_b_state state, uint32_t place, const uint64_t *queue, size_t places, const uint8_t *map,
+                    size_t bytes);
 
 /* A blanking period of 0 to 65,535 slots, each of which moves the oldest entry, if one waits, into the map. */
 zk_b_answer zk_b_blank(zk_b_state state, uint32_t slots, uint64_t *queue, size_t places, uint8_t *map, size_t bytes);

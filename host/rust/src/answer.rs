@@ -6,7 +6,7 @@
 pub struct Answer {
     /// 0 if accepted, else document 01's number.
     pub refusal: u8,
-    /// What a read, the timing signals or the expander answer.
+    /// What a read, a look, the timing signals or the expander answer.
     pub value: u16,
     /// Entries moved, calls listed or bytes written.
     pub count: u32,

@@ -2,7 +2,7 @@
 //!
 //! Document 01, "Chip A" and "The nine refusals", decides, over data sheet 003: Tables 1.1 and 1.2 (selects, overlay
 //! control), 2 and 3 (pointer and address), 4 (overlay or colour), 5.1 and 5.2 (blink times); then the rulings under
-//! "All chips" and "Chip A".
+//! "All chips" and "Chip A". Of the look, document 02, P5, and REPLAY.md's list of places.
 //!
 //! Doubts and choices:
 //! - A blue write stores the latches; nothing says that it clears them, so they stay.
@@ -135,6 +135,28 @@ pub fn read(s: &mut State, colours: &[u8], overlays: &[u8], select: u8) -> Answe
     })
 }
 
+/// The number at a place; it moves nothing.
+pub fn look(s: &State, colours: &[u8], overlays: &[u8], place: u32) -> Answer {
+    let refusal = unfit(s, colours, overlays);
+    if refusal != 0 {
+        return refused(refusal);
+    }
+    value(match place {
+        0 => s.address,
+        1 => s.pointer,
+        2 => s.red,
+        3 => s.green,
+        4 => s.read_mask,
+        5 => s.blink_mask,
+        6 => s.overlay,
+        7 => s.clock.timing,
+        8 => s.clock.position,
+        0x100..=0x10b => overlays[place as usize - 0x100],
+        0x1000..=0x12ff => colours[place as usize - 0x1000],
+        _ => return refused(3),
+    })
+}
+
 /// Lent no table, and reads nothing of the state: never refused.
 pub fn reset(s: &mut State) -> Answer {
     *s = State::default();
@@ -188,6 +210,7 @@ pub struct Chip {
 pub enum Call {
     Write { select: u8, data: u8 },
     Read { select: u8 },
+    Look { place: u32 },
     Reset,
     Tick,
     Pixel { enable: u8, number: u8, byte: u8 },
@@ -204,6 +227,7 @@ impl Chip {
         match call {
             Call::Write { select, data } => write(s, colours, overlays, select, data),
             Call::Read { select } => read(s, colours, overlays, select),
+            Call::Look { place } => look(s, colours, overlays, place),
             Call::Reset => reset(s),
             Call::Tick => tick(&mut s.clock),
             Call::Pixel { enable, number, byte } => pixel(s, colours, overlays, enable, number, byte),
@@ -333,6 +357,47 @@ mod tests {
         assert_eq!(c, chip());
     }
 
+    /// The answer of a look that is accepted and moves nothing.
+    fn l(c: &mut Chip, place: u32) -> u16 {
+        let before = c.clone();
+        let answer = c.make(Call::Look { place });
+        assert_eq!((answer, &*c), (value(answer.value), &before));
+        answer.value
+    }
+
+    #[test]
+    fn a_look_at_every_place() {
+        let mut c = chip();
+        let clock = Clock { timing: 0xe4, position: 0x35 };
+        let (red, green, read_mask, blink_mask, overlay) = (13, 7, 0xa5, 0x3c, 0x4a);
+        c.state = State { address: 0x91, pointer: 2, red, green, read_mask, blink_mask, overlay, clock };
+        let numbers = [0x91, 2, 13, 7, 0xa5, 0x3c, 0x4a, 0xe4, 0x35];
+        assert_eq!([0, 1, 2, 3, 4, 5, 6, 7, 8].map(|place| l(&mut c, place)), numbers);
+        for n in 0..12 {
+            c.overlays[n] = 0x40 + n as u8;
+            assert_eq!(l(&mut c, 0x100 + n as u32), 0x40 + n as u16);
+        }
+        for n in 0..768 {
+            c.colours[n] = 255 - (n / 3) as u8;
+            assert_eq!(l(&mut c, 0x1000 + n as u32), 255 - n as u16 / 3);
+        }
+        for place in [9, 0xff, 0x10c, 0xfff, 0x1300, 0x1_0000, 0x1_1000, 0x8000_0000, u32::MAX] {
+            no(&mut c, 3, Call::Look { place });
+        }
+    }
+
+    #[test]
+    fn a_look_tears_no_colour() {
+        let mut c = chip();
+        w(&mut c, 0, 0x10);
+        w(&mut c, 1, 0x03);
+        assert_eq!([l(&mut c, 0), l(&mut c, 1), l(&mut c, 2)], [0x10, 1, 3]);
+        w(&mut c, 1, 0x07);
+        w(&mut c, 1, 0x02);
+        assert_eq!(c.colours[0x30..0x33], [3, 7, 2]);
+        assert_eq!([l(&mut c, 0), l(&mut c, 0x1030), l(&mut c, 0x1031), l(&mut c, 0x1032)], [0x11, 3, 7, 2]);
+    }
+
     #[test]
     fn overlay_masks_and_the_number_as_given() {
         let mut c = chip();
@@ -354,9 +419,10 @@ mod tests {
         let calls = [
             Call::Write { select: 8, data: 0 },
             Call::Read { select: 2 },
+            Call::Look { place: 9 },
             Call::Pixel { enable: 2, number: 0, byte: 0 },
         ];
-        for (call, last) in calls.into_iter().zip([3, 3, 9]) {
+        for (call, last) in calls.into_iter().zip([3, 3, 3, 9]) {
             let mut c = chip();
             no(&mut c, last, call);
             c.state.pointer = 3;
@@ -391,6 +457,7 @@ mod tests {
             set(&mut c.state);
             no(&mut c, 9, Call::Write { select: 7, data: 0 });
             no(&mut c, 9, Call::Read { select: 0 });
+            no(&mut c, 9, Call::Look { place: 0 });
             no(&mut c, 9, Call::Pixel { enable: 0, number: 0, byte: 0 });
             if n == 6 {
                 no(&mut c, 9, Call::Tick);

@@ -1,7 +1,8 @@
 //! Chip B, the MS622424: 8,192 colours behind a queue of 64 waiting writes.
 //!
 //! Document 01, "Chip B" and "The nine refusals", decides, over data sheet 004: the truth table with its notes 1 and
-//! 2, the register tables, "Write FIFO", PIX.RGB0 and 1, RSB; then the rulings under "All chips" and "Chip B".
+//! 2, the register tables, "Write FIFO", PIX.RGB0 and 1, RSB; then the rulings under "All chips" and "Chip B". Of the
+//! look, document 02, P5, and REPLAY.md's list of places.
 //!
 //! The queue is lent beside the map: 64 places, one entry a place, oldest first, unused places zero. In a place red
 //! has bits 0 to 7, green 8 to 15, blue 16 to 23, and the address has the rest from bit 24 up.
@@ -190,6 +191,27 @@ pub fn read(s: &mut State, queue: &[u64], map: &[u8], select: u8) -> Answer {
     })
 }
 
+/// The number at a place, of the map as stored; it moves nothing.
+pub fn look(s: &State, queue: &[u64], map: &[u8], place: u32) -> Answer {
+    let refusal = unfit(s, queue, map, true);
+    if refusal != 0 {
+        return refused(refusal);
+    }
+    match place {
+        0 => value(s.address),
+        1 => value(s.counter),
+        2 => value(s.red),
+        3 => value(s.green),
+        4 => value(s.command),
+        5 => value(s.read_mode),
+        6 => value(s.revision),
+        7 => value(s.board),
+        8 => value(s.waiting),
+        0x1_0000..=0x1_5fff => value(map[place as usize - 0x1_0000]),
+        _ => refused(3),
+    }
+}
+
 pub fn blank(s: &mut State, queue: &mut [u64], map: &mut [u8], slots: u32) -> Answer {
     let refusal = unfit(s, queue, map, slots <= 65_535);
     if refusal != 0 {
@@ -253,6 +275,7 @@ pub struct Chip {
 pub enum Call {
     Write { select: u8, data: u8 },
     Read { select: u8 },
+    Look { place: u32 },
     Blank { slots: u32 },
     Pixel { mode: u8, word: u32 },
     Sync { signals: u8 },
@@ -271,6 +294,7 @@ impl Chip {
         match call {
             Call::Write { select, data } => write(s, queue, map, select, data),
             Call::Read { select } => read(s, queue, map, select),
+            Call::Look { place } => look(s, queue, map, place),
             Call::Blank { slots } => blank(s, queue, map, slots),
             Call::Pixel { mode, word } => pixel(s, queue, map, mode, word),
             Call::Sync { signals } => sync(s, queue, signals),
@@ -429,6 +453,43 @@ mod tests {
         no(&mut c, 5, Call::Read { select: 2 });
     }
 
+    /// The answer of a look that is accepted and moves nothing.
+    fn l(c: &mut Chip, place: u32) -> u16 {
+        let before = c.clone();
+        let answer = c.make(Call::Look { place });
+        assert_eq!((answer, &*c), (value(answer.value), &before));
+        answer.value
+    }
+
+    #[test]
+    fn a_look_at_every_place() {
+        let mut c = with_waiting(33);
+        let (red, green, command, read_mode, revision, board) = (0x91, 0x7e, 0x1b, 1, 6, 13);
+        c.state = State { address: 0x1234, counter: 2, red, green, command, read_mode, revision, board, waiting: 33 };
+        let numbers = [0x1234, 2, 0x91, 0x7e, 0x1b, 1, 6, 13, 33];
+        assert_eq!([0, 1, 2, 3, 4, 5, 6, 7, 8].map(|place| l(&mut c, place)), numbers);
+        for n in (0..MAP).step_by(7).chain([MAP - 1]) {
+            c.map[n] = (n / 7) as u8;
+            assert_eq!(l(&mut c, 0x1_0000 + n as u32), (n / 7 % 256) as u16);
+        }
+        for place in [9, 0xff, 0x100, 0x1000, 0xffff, 0x1_6000, 0x2_0000, 0x11_0000, 0x8000_0000, u32::MAX] {
+            no(&mut c, 3, Call::Look { place });
+        }
+    }
+
+    #[test]
+    fn a_look_answers_from_the_map_as_stored() {
+        let mut c = with_waiting(3);
+        let stored = |c: &mut Chip| [6, 7, 8].map(|n| l(c, 0x1_0000 + n));
+        assert_eq!((stored(&mut c), l(&mut c, 8), l(&mut c, 0)), ([0, 0, 0], 3, 3));
+        w(&mut c, 7, 0);
+        assert_eq!((stored(&mut c), l(&mut c, 8), l(&mut c, 5)), ([0, 0, 0], 3, 1));
+        assert_eq!(c.make(Call::Blank { slots: 3 }), count(3));
+        assert_eq!((stored(&mut c), l(&mut c, 8), l(&mut c, 5)), ([2, 4, 6], 0, 1));
+        r(&mut c, 7);
+        assert_eq!((stored(&mut c), l(&mut c, 5)), ([2, 4, 6], 0));
+    }
+
     #[test]
     fn blanking_moves_the_smaller_number() {
         let mut c = with_waiting(10);
@@ -481,6 +542,8 @@ mod tests {
             Call::Write { select: 2, data: 0 },
             Call::Write { select: 9, data: 0 },
             Call::Read { select: 2 },
+            Call::Look { place: 0 },
+            Call::Look { place: 9 },
             Call::Blank { slots: 0 },
             Call::Pixel { mode: 0, word: 0 },
             Call::Sync { signals: 0 },
@@ -501,13 +564,13 @@ mod tests {
             for (k, call) in calls.into_iter().enumerate() {
                 let mut c = with_waiting(2);
                 set(&mut c);
-                if k < 6 || n < 2 {
+                if k < 8 || n < 2 {
                     no(&mut c, 9, call);
                 } else {
                     assert_eq!(c.clone().make(call), DONE);
                 }
                 c.map.pop();
-                if k < 5 {
+                if k < 7 {
                     no(&mut c, 1, call);
                 }
                 c.queue.push(0);

@@ -2,7 +2,7 @@
 //!
 //! Document 01, "Chip C" and "The nine refusals", decides, over data sheet 001: sections 9.3 and 9.4.1, Tables 23 to
 //! 26, and 10.15 (register 0x000E: bit 2 for reads, bit 1 for writes, 0 enables); then the rulings under "All chips"
-//! and "Chip C".
+//! and "Chip C". Of the look, document 02, P5, and REPLAY.md's list of places.
 //!
 //! Doubts and choices:
 //! - A third write leaves the latches as they are; nothing says that it clears them.
@@ -53,13 +53,14 @@ pub fn expand(bits: u8, component: u32) -> Answer {
     }
 }
 
-fn unfit(s: &State, table: &[u16], port: u8) -> u8 {
+/// Refusal 1 or 9 of every call that is lent the table, or else 3 where there is no such port or place.
+fn unfit(s: &State, table: &[u16], there: bool) -> u8 {
     let components = [s.red, s.green, s.fetched[0], s.fetched[1], s.fetched[2]];
     if table.len() != TABLE {
         1
     } else if s.place > 2 || components.iter().any(|c| *c > 1_023) {
         9
-    } else if !(4..=6).contains(&port) {
+    } else if !there {
         3
     } else {
         0
@@ -86,7 +87,7 @@ fn step(s: &mut State, table: &[u16], disables: u8) {
 }
 
 pub fn write(s: &mut State, table: &mut [u16], port: u8, data: u8) -> Answer {
-    let refusal = unfit(s, table, port);
+    let refusal = unfit(s, table, (4..=6).contains(&port));
     if refusal != 0 {
         return refused(refusal);
     }
@@ -118,7 +119,7 @@ pub fn write(s: &mut State, table: &mut [u16], port: u8, data: u8) -> Answer {
 }
 
 pub fn read(s: &mut State, table: &[u16], port: u8) -> Answer {
-    let refusal = unfit(s, table, port);
+    let refusal = unfit(s, table, (4..=6).contains(&port));
     if refusal != 0 {
         return refused(refusal);
     }
@@ -133,6 +134,26 @@ pub fn read(s: &mut State, table: &[u16], port: u8) -> Answer {
             value(component / 4)
         }
         (_, Named::Write(_) | Named::Nothing) => refused(4),
+    }
+}
+
+/// The number at a place, of the table as lent; it moves nothing.
+pub fn look(s: &State, table: &[u16], place: u32) -> Answer {
+    let refusal = unfit(s, table, matches!(place, 0..=7 | 0x1_0000..=0x1_0bff));
+    if refusal != 0 {
+        return refused(refusal);
+    }
+    let [fetched_red, fetched_green, fetched_blue] = s.fetched;
+    match place {
+        0 => value(s.index),
+        1 => value(s.place),
+        2 => value(s.red),
+        3 => value(s.green),
+        4 => value(fetched_red),
+        5 => value(fetched_green),
+        6 => value(fetched_blue),
+        7 => value(s.control),
+        number => value(table[number as usize - 0x1_0000]),
     }
 }
 
@@ -153,6 +174,7 @@ pub struct Chip {
 pub enum Call {
     Write { port: u8, data: u8 },
     Read { port: u8 },
+    Look { place: u32 },
     Reset,
 }
 
@@ -166,6 +188,7 @@ impl Chip {
         match call {
             Call::Write { port, data } => write(&mut self.state, &mut self.table, port, data),
             Call::Read { port } => read(&mut self.state, &self.table, port),
+            Call::Look { place } => look(&self.state, &self.table, place),
             Call::Reset => reset(&mut self.state),
         }
     }
@@ -265,6 +288,39 @@ mod tests {
         assert_eq!((c.state.index, c.state.fetched), (0x8000, [0, 1_023, 7]));
     }
 
+    /// The answer of a look that is accepted and moves nothing.
+    fn l(c: &mut Chip, place: u32) -> u16 {
+        let before = c.clone();
+        let answer = c.make(Call::Look { place });
+        assert_eq!((answer, &*c), (value(answer.value), &before));
+        answer.value
+    }
+
+    #[test]
+    fn a_look_at_every_place() {
+        let mut c = chip();
+        let (fetched, control) = ([303, 104, 905], 0xa6);
+        c.state = State { index: 0x8123, place: 2, red: 1_001, green: 502, fetched, control };
+        let numbers = [0x8123, 2, 1_001, 502, 303, 104, 905, 0xa6];
+        assert_eq!([0, 1, 2, 3, 4, 5, 6, 7].map(|place| l(&mut c, place)), numbers);
+        for n in 0..TABLE {
+            c.table[n] = 65_535 - 21 * n as u16;
+            assert_eq!(l(&mut c, 0x1_0000 + n as u32), 65_535 - 21 * n as u16);
+        }
+        for place in [8, 0x0e, 0xff, 0x4000, 0xffff, 0x1_0c00, 0x2_0000, 0x11_0000, 0x8000_0000, u32::MAX] {
+            no(&mut c, 3, Call::Look { place });
+        }
+    }
+
+    #[test]
+    fn looks_between_reads() {
+        let mut c = chip();
+        at(&mut c, 0x8005);
+        assert_eq!([r(&mut c, 6), l(&mut c, 1), l(&mut c, 4), l(&mut c, 0x1_000f)], [1, 1, 5, 1_029]);
+        assert_eq!([r(&mut c, 6), l(&mut c, 1), l(&mut c, 5)], [254, 2, 1_018]);
+        assert_eq!([r(&mut c, 6), l(&mut c, 0), l(&mut c, 4), l(&mut c, 0x1_0012)], [1, 0x8006, 6, 1_030]);
+    }
+
     #[test]
     fn register_0e_disables_each_direction() {
         let mut c = chip();
@@ -306,6 +362,7 @@ mod tests {
         for port in [0, 3, 7, 255] {
             no(&mut c, 3, Call::Write { port, data: 0 });
             no(&mut c, 3, Call::Read { port });
+            no(&mut c, 3, Call::Look { place: 8 + u32::from(port) });
         }
         let set: [fn(&mut State); 6] = [
             |s| s.place = 3,
@@ -321,9 +378,11 @@ mod tests {
             for port in [4, 5, 6, 7] {
                 no(&mut c, 9, Call::Write { port, data: 0 });
                 no(&mut c, 9, Call::Read { port });
+                no(&mut c, 9, Call::Look { place: 4 + u32::from(port) });
                 c.table.push(0);
                 no(&mut c, 1, Call::Write { port, data: 0 });
                 no(&mut c, 1, Call::Read { port });
+                no(&mut c, 1, Call::Look { place: 4 + u32::from(port) });
                 c.table.pop();
             }
             c.table.pop();

@@ -50,6 +50,7 @@ fn both<C: Clone + PartialEq + Debug, K: Copy + Debug>(
 macro_rules! compared {
     ($name:ident, $library:ident, $any:ident, $fit:ident, $call:ident, $run:ident, $refusals:expr) => {
         /// Single calls on any chips, and runs on chips in range; each refusal that the chip has must have been met.
+        /// A run is made once more by the library without its looks: that must answer and leave the same.
         pub fn $name(t: &mut Test) {
             let mut r = Random::new(t.random());
             let mut met = [0usize; 10];
@@ -61,10 +62,16 @@ macro_rules! compared {
             }
             for _ in 0..RUNS * times() {
                 let chip = gen::$fit(&mut r);
+                let mut without = chip.clone();
                 let mut pair = Pair { library: chip.clone(), second: chip };
                 for call in gen::$run(&mut r, RUN_LENGTH) {
-                    both(t, &mut pair, call, $library::make, $name::Chip::make);
+                    let answer = both(t, &mut pair, call, $library::make, $name::Chip::make);
+                    if !matches!(call, $name::Call::Look { .. }) {
+                        let ours = $library::make(&mut without, call);
+                        t.same(|| format!("the answer of {:?} in a run without its looks", call), &ours, &answer);
+                    }
                 }
+                t.same(|| "what a run without its looks leaves".to_string(), &(without == pair.second), &true);
             }
             for refusal in $refusals {
                 t.same(|| format!("refusal {} met often", refusal), &(met[refusal] > 20), &true);

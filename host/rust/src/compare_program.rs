@@ -68,7 +68,7 @@ pub fn logs(t: &mut Test) {
     for number in 0..LOGS * times() {
         log(t, number, &gen_log::log(&mut r, LOG_TASKS), &mut met);
     }
-    let kinds = "ok moved=0 moved=4 value colour sync ten chip=153108 bad \
+    let kinds = "ok moved=0 moved=4 value look colour sync ten chip=153108 bad \
                  refused=3 refused=4 refused=5 refused=6 refused=9";
     for kind in kinds.split(' ') {
         t.same(|| format!("{} met often", kind), &(met.get(kind).map_or(0, |n| *n) > 20), &true);

@@ -3,7 +3,7 @@
 //! No page decides here. A `fit` chip is in range with tables of the right lengths; of the `any` chips one in three
 //! has one field out of its range, and one in eight of their tables has another length. A run of calls goes by small
 //! tasks (load, read back, fill the queue, switch the mode), so that queues fill, colours tear and wraps are crossed;
-//! calls of any kind stand between them.
+//! calls of any kind stand between them, and looks anywhere.
 use crate::{chip_a, chip_b, chip_c};
 
 /// Random numbers (splitmix64), of its own, so that a test can compare while it draws.
@@ -74,6 +74,23 @@ impl Random {
         }
     }
 
+    /// A look's place, of blocks with their first place and how many they have: in one of them, at its ends, just
+    /// beyond them, in it but for a bit above all blocks, or any number.
+    fn place(&mut self, blocks: &[(u32, u32)]) -> u32 {
+        let (first, length) = self.pick(blocks);
+        let inside = first + self.below(length as usize) as u32;
+        let above = inside | 1 << (17 + self.below(15));
+        match self.below(16) {
+            0 => first,
+            1 => first + length - 1,
+            2 => first.wrapping_sub(1),
+            3 => first + length,
+            4 => above,
+            5 => self.word() as u32,
+            _ => inside,
+        }
+    }
+
     /// A buffer's length for so many bytes: often just enough, or one too few.
     pub fn buffer(&mut self, bytes: usize) -> usize {
         match self.below(8) {
@@ -85,6 +102,18 @@ impl Random {
             _ => bytes,
         }
     }
+}
+
+/// A run with looks put in before about one call in eight.
+fn with_looks<C>(r: &mut Random, calls: Vec<C>, look: fn(&mut Random) -> C) -> Vec<C> {
+    let mut run = Vec::new();
+    for call in calls {
+        if r.one_in(8) {
+            run.push(look(r));
+        }
+        run.push(call);
+    }
+    run
 }
 
 /// Chip A's table bytes: any, or one of them over 15, or mostly none.
@@ -137,15 +166,20 @@ pub fn any_a(r: &mut Random) -> chip_a::Chip {
     chip
 }
 
+fn look_a(r: &mut Random) -> chip_a::Call {
+    chip_a::Call::Look { place: r.place(&[(0, 9), (0x100, 12), (0x1000, 768)]) }
+}
+
 pub fn call_a(r: &mut Random) -> chip_a::Call {
     use chip_a::Call::{Pixel, Read, Reset, Tick, Write};
     let far = r.beyond(8);
     let select = r.pick(&[0, 0, 1, 1, 1, 3, 3, 3, 4, 5, 6, 7, 2, far]);
-    match r.below(16) {
+    match r.below(20) {
         0..=4 => Write { select, data: r.byte() },
         5..=9 => Read { select },
         10 | 11 => Tick,
         12 => Reset,
+        13..=16 => look_a(r),
         _ => {
             let enable = if r.one_in(10) { r.beyond(2) } else { r.small(2) };
             let number = if r.one_in(10) { r.beyond(4) } else { r.small(4) };
@@ -202,7 +236,7 @@ pub fn run_a(r: &mut Random, length: usize) -> Vec<chip_a::Call> {
             _ => calls.extend([call_a(r), call_a(r), call_a(r), call_a(r)]),
         }
     }
-    calls
+    with_looks(r, calls, look_a)
 }
 
 pub fn fit_b(r: &mut Random) -> chip_b::Chip {
@@ -261,17 +295,22 @@ fn pixel_b(r: &mut Random) -> chip_b::Call {
     }
 }
 
+fn look_b(r: &mut Random) -> chip_b::Call {
+    chip_b::Call::Look { place: r.place(&[(0, 9), (0x1_0000, 24_576)]) }
+}
+
 pub fn call_b(r: &mut Random) -> chip_b::Call {
     use chip_b::Call::{Blank, Read, Reset, Sync, Write};
     let far = r.beyond(8);
     let any = r.below(70) as u32;
-    match r.below(20) {
+    match r.below(24) {
         0..=6 => Write { select: r.pick(&[0, 1, 2, 2, 2, 2, 2, 2, 3, 7, 4, 5, 6, far]), data: r.byte() },
         7..=12 => Read { select: r.pick(&[0, 1, 2, 2, 2, 2, 3, 4, 5, 5, 5, 6, 7, far]) },
         13 | 14 => Blank { slots: r.pick(&[0, 1, 4, 63, 64, 65_535, 65_536, u32::MAX, any, any, any]) },
         15 | 16 => pixel_b(r),
         17 | 18 => Sync { signals: if r.one_in(6) { r.beyond(16) } else { r.small(16) } },
-        _ => Reset,
+        19 => Reset,
+        _ => look_b(r),
     }
 }
 
@@ -331,7 +370,7 @@ pub fn run_b(r: &mut Random, length: usize) -> Vec<chip_b::Call> {
             _ => calls.extend([call_b(r), call_b(r), call_b(r), call_b(r)]),
         }
     }
-    calls
+    with_looks(r, calls, look_b)
 }
 
 pub fn fit_c(r: &mut Random) -> chip_c::Chip {
@@ -376,15 +415,20 @@ fn index_byte(r: &mut Random, port: u8) -> u8 {
     }
 }
 
+fn look_c(r: &mut Random) -> chip_c::Call {
+    chip_c::Call::Look { place: r.place(&[(0, 8), (0x1_0000, 3_072)]) }
+}
+
 pub fn call_c(r: &mut Random) -> chip_c::Call {
     use chip_c::Call::{Read, Reset, Write};
     let far = if r.one_in(2) { r.small(4) } else { r.beyond(7) };
     let port = r.pick(&[4, 4, 5, 5, 6, 6, 6, 6, 6, 6, far]);
-    match r.below(16) {
+    match r.below(20) {
         0 => Reset,
         1..=8 if port == 6 => Write { port, data: r.byte() },
         1..=8 => Write { port, data: index_byte(r, port) },
-        _ => Read { port },
+        9..=15 => Read { port },
+        _ => look_c(r),
     }
 }
 
@@ -424,13 +468,13 @@ pub fn run_c(r: &mut Random, length: usize) -> Vec<chip_c::Call> {
             _ => calls.extend([call_c(r), call_c(r), call_c(r), call_c(r)]),
         }
     }
-    calls
+    with_looks(r, calls, look_c)
 }
 
 #[cfg(test)]
 mod tests {
     use super::*;
-    use crate::answer::{refused, Answer};
+    use crate::answer::{refused, value, Answer};
     use std::collections::BTreeSet;
 
     /// A refusal has no value, count or colour and leaves all as it was; after an acceptance the chip is in range.
@@ -481,6 +525,45 @@ mod tests {
             assert_eq!(fit_b(&mut r).make(chip_b::Call::Read { select: 0 }).refusal, 0);
             assert_eq!(fit_c(&mut r).make(chip_c::Call::Read { port: 4 }).refusal, 0);
         }
+    }
+
+    /// A run's answers, but for those to its looks, and what it leaves are the same without its looks; looks of both
+    /// kinds, accepted and refused, are in it.
+    macro_rules! without_looks {
+        ($r:expr, $chip:ident, $fit:ident, $run:ident) => {
+            let (chip, run) = ($fit($r), $run($r, 4_000));
+            let looks = |call: &$chip::Call| matches!(call, $chip::Call::Look { .. });
+            let (mut all, mut rest, mut there, mut nowhere) = (chip.clone(), chip, 0, 0);
+            for call in run {
+                let answer = all.make(call);
+                if looks(&call) {
+                    *if answer.refusal == 0 { &mut there } else { &mut nowhere } += 1;
+                    assert_eq!(answer, if answer.refusal == 0 { value(answer.value) } else { refused(3) });
+                } else {
+                    assert_eq!(answer, rest.make(call));
+                }
+            }
+            assert_eq!(all, rest);
+            assert!(there > 100 && nowhere > 20, "{} {}", there, nowhere);
+        };
+    }
+
+    #[test]
+    fn runs_without_their_looks() {
+        let mut r = Random::new(9);
+        without_looks!(&mut r, chip_a, fit_a, run_a);
+        without_looks!(&mut r, chip_b, fit_b, run_b);
+        without_looks!(&mut r, chip_c, fit_c, run_c);
+    }
+
+    #[test]
+    fn places_are_drawn_at_every_edge() {
+        let mut r = Random::new(10);
+        let drawn: BTreeSet<u32> = (0..4_000).map(|_| r.place(&[(0, 9), (0x1000, 768)])).collect();
+        for place in (0..10).chain([0xfff, 0x1000, 0x1001, 0x12ff, 0x1300, u32::MAX]) {
+            assert!(drawn.contains(&place), "{:x}", place);
+        }
+        assert!(drawn.iter().filter(|place| **place > 0x1_ffff).count() > 200);
     }
 
     #[test]

@@ -6,11 +6,16 @@ use crate::gen::{run_a, run_b, run_c, Random};
 use crate::gen_sheet::{any_sheet, damage, good_sheet};
 use crate::{chip_a, chip_b, chip_c, sheet};
 
+fn look_line(place: u32) -> String {
+    format!("look={:05x}", place)
+}
+
 /// The log line of a call; a call that the log cannot say becomes a bad line.
 fn line_a(call: chip_a::Call) -> String {
     match call {
         chip_a::Call::Write { select, data } => format!("w{:x}={:02x}", select, data),
         chip_a::Call::Read { select } => format!("r{:x}", select),
+        chip_a::Call::Look { place } => look_line(place),
         chip_a::Call::Reset => "reset".to_string(),
         chip_a::Call::Tick => "tick".to_string(),
         chip_a::Call::Pixel { enable, number, byte } => format!("pixel={:x}{:x}{:02x}", enable, number, byte),
@@ -21,6 +26,7 @@ fn line_b(call: chip_b::Call) -> String {
     match call {
         chip_b::Call::Write { select, data } => format!("w{:x}={:02x}", select, data),
         chip_b::Call::Read { select } => format!("r{:x}", select),
+        chip_b::Call::Look { place } => look_line(place),
         chip_b::Call::Blank { slots } => format!("blank={:08x}", slots),
         chip_b::Call::Pixel { mode, word } => format!("pixel={:x}{:08x}", mode, word),
         chip_b::Call::Sync { signals } => format!("sync={:x}", signals),
@@ -32,6 +38,7 @@ fn line_c(call: chip_c::Call) -> String {
     match call {
         chip_c::Call::Write { port, data } => format!("w{:x}={:02x}", port, data),
         chip_c::Call::Read { port } => format!("r{:x}", port),
+        chip_c::Call::Look { place } => look_line(place),
         chip_c::Call::Reset => "reset".to_string(),
     }
 }
@@ -54,7 +61,8 @@ fn task_lines(r: &mut Random) -> Vec<String> {
         }
         10 => ("640", (0..length).map(|_| expand_line(r)).collect()),
         _ => {
-            let all = "tick sheet reset sync=5 blank=00000003 pixel=0012 pixel=000000012 r0 w0=00 r f chip= chip=64";
+            let all = "tick sheet reset sync=5 blank=00000003 pixel=0012 pixel=000000012 r0 w0=00 r f chip= chip=64 \
+                       look=00004 look=10000 look= look=0000 look=000000 look=0000F look=1000g look=fffff";
             ("622424", all.split(' ').filter(|_| r.one_in(3)).map(String::from).collect())
         }
     };
@@ -108,7 +116,7 @@ mod tests {
                 seen.insert(line.split('=').next().unwrap().to_string());
             }
         }
-        let expected = "ok moved=0 moved=4 moved=NN value colour sync ten chip=153108 cff bad \
+        let expected = "ok moved=0 moved=4 moved=NN value look colour sync ten chip=153108 cff bad \
                         refused=3 refused=4 refused=5 refused=6 refused=9";
         for answer in expected.split(' ') {
             assert!(seen.contains(answer), "{}", answer);

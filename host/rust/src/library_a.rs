@@ -1,6 +1,7 @@
 //! Chip A's calls of the proved library, made on the second implementation's chip.
 use crate::answer::{colour, refused, value, Answer, DONE};
 use crate::chip_a::{Call, Chip, Clock, State};
+use crate::library_look::LibLooked;
 
 #[repr(C)]
 #[derive(Clone, Copy)]
@@ -48,6 +49,7 @@ extern "C" {
         s: LibState, select: u8, byte: u8, colours: *mut u8, n: usize, overlays: *mut u8, m: usize,
     ) -> LibAnswer;
     fn zk_a_read(s: LibState, select: u8, colours: *const u8, n: usize, overlays: *const u8, m: usize) -> LibAnswer;
+    fn zk_a_look(s: LibState, place: u32, colours: *const u8, n: usize, overlays: *const u8, m: usize) -> LibLooked;
     fn zk_a_reset(s: LibState) -> LibAnswer;
     fn zk_a_step(k: LibClock) -> LibClockAnswer;
     fn zk_a_tick(k: *mut LibClock) -> u8;
@@ -106,6 +108,7 @@ pub fn make(c: &mut Chip, call: Call) -> Answer {
     let after = match call {
         Call::Write { select, data } => unsafe { zk_a_write(s, select, data, colours, n, overlays, m) },
         Call::Read { select } => unsafe { zk_a_read(s, select, colours, n, overlays, m) },
+        Call::Look { place } => return unsafe { zk_a_look(s, place, colours, n, overlays, m) }.told(),
         Call::Reset => unsafe { zk_a_reset(s) },
         Call::Tick => return tick(&mut c.state.clock),
         Call::Pixel { enable, number, byte } => return pixel(c, enable, number, byte),

@@ -1,6 +1,7 @@
 //! Chip B's calls of the proved library, made on the second implementation's chip.
 use crate::answer::{colour, Answer, DONE};
 use crate::chip_b::{Call, Chip, State};
+use crate::library_look::LibLooked;
 
 #[repr(C)]
 struct LibPort {
@@ -55,6 +56,7 @@ struct LibShown {
 extern "C" {
     fn zk_b_write(s: LibState, select: u8, byte: u8, queue: *mut u64, q: usize, map: *mut u8, n: usize) -> LibAnswer;
     fn zk_b_read(s: LibState, select: u8, queue: *const u64, q: usize, map: *const u8, n: usize) -> LibAnswer;
+    fn zk_b_look(s: LibState, place: u32, queue: *const u64, q: usize, map: *const u8, n: usize) -> LibLooked;
     fn zk_b_blank(s: LibState, slots: u32, queue: *mut u64, q: usize, map: *mut u8, n: usize) -> LibAnswer;
     fn zk_b_pixel(s: LibState, mode: u8, word: u32, queue: *const u64, q: usize, map: *const u8, n: usize) -> LibShown;
     fn zk_b_sync(s: LibState, signals: u8, queue: *const u64, q: usize) -> LibAnswer;
@@ -96,6 +98,7 @@ pub fn make(c: &mut Chip, call: Call) -> Answer {
         match call {
             Call::Write { select, data } => zk_b_write(s, select, data, queue, q, map, n),
             Call::Read { select } => zk_b_read(s, select, queue, q, map, n),
+            Call::Look { place } => return zk_b_look(s, place, queue, q, map, n).told(),
             Call::Blank { slots } => zk_b_blank(s, slots, queue, q, map, n),
             Call::Sync { signals } => zk_b_sync(s, signals, queue, q),
             Call::Reset => zk_b_reset(s, queue, q),

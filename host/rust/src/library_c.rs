@@ -1,6 +1,7 @@
 //! Chip C's calls of the proved library, made on the second implementation's chip.
 use crate::answer::{value, Answer};
 use crate::chip_c::{Call, Chip, State};
+use crate::library_look::LibLooked;
 
 #[repr(C)]
 struct LibState {
@@ -22,6 +23,7 @@ struct LibAnswer {
 extern "C" {
     fn zk_c_write(s: LibState, port: u8, byte: u8, table: *mut u16, n: usize) -> LibAnswer;
     fn zk_c_read(s: LibState, port: u8, table: *const u16, n: usize) -> LibAnswer;
+    fn zk_c_look(s: LibState, place: u32, table: *const u16, n: usize) -> LibLooked;
     fn zk_c_reset(s: LibState) -> LibAnswer;
 }
 
@@ -43,6 +45,7 @@ pub fn make(c: &mut Chip, call: Call) -> Answer {
         match call {
             Call::Write { port, data } => zk_c_write(s, port, data, table, n),
             Call::Read { port } => zk_c_read(s, port, table, n),
+            Call::Look { place } => return zk_c_look(s, place, table, n).told(),
             Call::Reset => zk_c_reset(s),
         }
     };

@@ -16,6 +16,7 @@ mod gen_sheet;
 mod library_a;
 mod library_b;
 mod library_c;
+mod library_look;
 mod library_sheet;
 mod replay;
 mod sheet;

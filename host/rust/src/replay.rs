@@ -8,6 +8,7 @@
 //! - A select digit of 8 to f is well formed: its call refuses 3. So is an overlay number or mode digit over 3, a word
 //!   over 24 bits, a number of slots over 16 bits, and a component wider than `expand=` says: their calls refuse 9.
 //! - B's reset answers `ok`, as every reset; every accepted write on B tells its count, whatever the select.
+//! - Any five digits are a well formed `look=`: a place that is not there is refused by its call.
 use crate::answer::Answer;
 use crate::sheet::{from_chip, hex};
 use crate::{chip_a, chip_b, chip_c};
@@ -31,6 +32,7 @@ enum Told {
     Ok(Answer),
     Moved(Answer),
     Value(Answer),
+    Look(Answer),
     Colour(Answer),
     Sync(Answer),
     Ten(Answer),
@@ -58,6 +60,14 @@ impl Board {
             Chosen::A => self.a.make(chip_a::Call::Read { select }),
             Chosen::B => self.b.make(chip_b::Call::Read { select }),
             Chosen::C => self.c.make(chip_c::Call::Read { port: select }),
+        })
+    }
+
+    fn look(&mut self, place: u32) -> Told {
+        Told::Look(match self.chosen {
+            Chosen::A => self.a.make(chip_a::Call::Look { place }),
+            Chosen::B => self.b.make(chip_b::Call::Look { place }),
+            Chosen::C => self.c.make(chip_c::Call::Look { place }),
         })
     }
 
@@ -114,6 +124,9 @@ impl Board {
             let signals = hex(digits, 1)? as u8;
             return b.then(|| Told::Sync(self.b.make(chip_b::Call::Sync { signals })));
         }
+        if let Some(digits) = line.strip_prefix(b"look=") {
+            return Some(self.look(hex(digits, 5)?));
+        }
         match line {
             [b'w', select, b'=', data @ ..] => {
                 let select = hex(&[*select], 1)? as u8;
@@ -140,6 +153,7 @@ fn answer(told: Option<Told>) -> Vec<u8> {
         Some(Told::Ok(answer)) => (answer, b"ok\n".to_vec()),
         Some(Told::Moved(answer)) => (answer, format!("moved={}\n", answer.count).into_bytes()),
         Some(Told::Value(answer)) => (answer, format!("value={:02x}\n", answer.value).into_bytes()),
+        Some(Told::Look(answer)) => (answer, format!("look={:04x}\n", answer.value).into_bytes()),
         Some(Told::Colour(answer)) => {
             let [red, green, blue] = answer.colour;
             (answer, format!("colour={:02x}{:02x}{:02x}\n", red, green, blue).into_bytes())
@@ -242,6 +256,30 @@ mod tests {
     }
 
     #[test]
+    fn looks_on_each_chip() {
+        check(
+            "w0=10 w1=03 look=00000 look=00001 look=00002 w1=07 w1=02 look=01030 look=01031 look=01032 look=00000",
+            "ok ok look=0010 look=0001 look=0003 ok ok look=0003 look=0007 look=0002 look=0011",
+        );
+        check(
+            "look=00008 look=00009 look=0010b look=0010c look=012ff look=01300",
+            "look=0000 refused=3 look=0000 refused=3 look=0000 refused=3",
+        );
+        check(
+            "chip=622424 w2=0a w2=0b w2=0c look=00008 look=10001 w7=00 look=10001 look=00005 blank=00000001 look=10001 \
+             look=00008 look=00007 look=00006 look=15fff look=16000 look=0ffff look=fffff",
+            "ok moved=0 moved=0 moved=0 look=0001 look=0000 moved=0 look=0000 look=0001 moved=1 look=000b \
+             look=0000 look=0005 look=0003 look=0000 refused=3 refused=3 refused=3",
+        );
+        check(
+            "chip=640 w4=ff w5=43 w6=ff w6=80 w6=00 look=10bfd look=10bfe look=10bff look=10c00 look=00000 look=00002 \
+             look=00003 look=00007 look=00008",
+            "ok ok ok ok ok ok look=03ff look=0202 look=0000 refused=3 look=4000 look=03ff \
+             look=0202 look=0000 refused=3",
+        );
+    }
+
+    #[test]
     fn choosing_a_chip_changes_nothing_on_it() {
         check(
             "w0=07 w1=01 chip=640 chip=153108 w1=02 w1=03 chip=622424 r0 chip=153108 w0=07 r1",
@@ -265,7 +303,8 @@ mod tests {
     fn bad_lines() {
         let bad = "chip=153109 chip= chip=64 chip=6400 chip W0=00 w0=0 w0=000 w0=0G w0=0A wA=00 w=00 w00=00 w0 w \
                    rA resets tick1 pixel=2000 pixel=f000 pixel=000 pixel=00000 pixel=00A0 pixel=000000000 \
-                   blank=00000001 sync=0 sheet= sheets reset= tick= \t";
+                   blank=00000001 sync=0 sheet= sheets reset= tick= \t \
+                   look look= look=0 look=0000 look=000000 look=0000A look=0000g look=00000= LOOK=00000 looks=00000";
         for line in bad.split(' ') {
             check(line, "bad");
         }
