@@ -1,12 +1,13 @@
-// The HD153108's vectors: document 01, "Both sides of each edge", and each ruling's smallest example.
+// The HD153108's vectors: document 01, "Both sides of each edge", and each ruling's smallest example; then looks.
 //
-// stdin is the list of calls, and stdout was worked out by hand from source document 003 and document 01, before the
-// first run. A line of stdin is a letter and bytes of two hex digits, each behind a space:
+// stdin is the list of calls, and stdout was worked out by hand from source document 003, document 01 and request P5,
+// before the first run. A line of stdin is a letter and bytes of two hex digits, each behind a space:
 //   # a label
 //   s the state: address, pointer, latched red and green, read mask, blink mask, overlay control, timing, position
 //   w write: select, byte                        x the same, with the tables lent in each other's place
 //   r read: select                               p pixel: overlay enable, overlay number, byte
 //   z reset                                      t tick
+//   ? look: place, four digits
 //   c colour, o overlay: entry, label            g the registers are printed
 //   k the blink clock is printed                 a the blink clock advances by a tick, and is printed
 //   n every byte of colour n is made n, and every byte of overlay n 0xf0 + n, so that a pixel's part shows its entry
@@ -70,12 +71,13 @@ fn alone(s: State, line: &[u8]) -> State {
 }
 
 // A line that leaves the tables.
-fn look<'a>(s: State, line: &[u8], colours: &'a [u8], overlays: &'a [u8]) -> State {
+fn asked<'a>(s: State, line: &[u8], colours: &'a [u8], overlays: &'a [u8]) -> State {
     match script::command(line) {
         b'r' => show::read(s, line, colours, overlays),
         b'p' => show::pixel(s, line, colours, overlays),
         b'c' => show::entry(s, line, colours),
         b'o' => show::entry(s, line, overlays),
+        b'?' => show::look(s, line, colours, overlays),
         _ => alone(s, line),
     }
 }
@@ -89,7 +91,7 @@ fn turn(s: State, line: &[u8], colours: &mut [u8; 768], overlays: &mut [u8; 12])
             number_entries(overlays, 240);
             s
         }
-        _ => look(s, line, colours, overlays),
+        _ => asked(s, line, colours, overlays),
     }
 }
 

@@ -1,4 +1,4 @@
-// What the vectors print. Every number is two hex digits.
+// What the vectors print. Every number is two hex digits, but of a look four.
 use hd153108::Answer;
 use hd153108::Clock;
 use hd153108::State;
@@ -113,5 +113,16 @@ pub fn pixel<'a>(s: State, line: &[u8], colours: &'a [u8], overlays: &'a [u8]) -
     let numbers = [enable, number, byte, refusal];
     fields(b"pixel enable=% number=% byte=% refused=%, shows", &numbers);
     bytes(hd153108_pixel::pixel(s, colours, overlays, enable, number, byte));
+    s
+}
+
+// A look: its refusal and the number at the place.
+pub fn look(s: State, line: &[u8], colours: &[u8], overlays: &[u8]) -> State {
+    let place = script::word(line, 2);
+    let seen = hd153108_look::zk_a_look(s, place as u32, colours, overlays);
+    script::hex(b"look place=", place as u64, 4);
+    script::hex(b" refused=", seen.refusal as u64, 2);
+    script::hex(b" value=", seen.value as u64, 4);
+    script::line_end();
     s
 }

@@ -82,7 +82,7 @@ fn asked(s: State, line: &[u8], queue: &[u64], map: &[u8]) -> Answer {
 }
 
 // A line that leaves what is lent.
-fn look(s: State, line: &[u8], queue: &[u64], map: &[u8]) -> State {
+fn kept(s: State, line: &[u8], queue: &[u64], map: &[u8]) -> State {
     match script::command(line) {
         b's' => given(line),
         b'r' | b'y' => show::answer(line, asked(s, line, queue, map)),
@@ -92,6 +92,11 @@ fn look(s: State, line: &[u8], queue: &[u64], map: &[u8]) -> State {
                 line,
                 ms622424_pixel::zk_b_pixel(s, byte(line, 2), word, queue, map),
             );
+            s
+        }
+        b'?' => {
+            let place = script::long(line, 2);
+            show::looked(line, ms622424_look::zk_b_look(s, place, queue, map));
             s
         }
         _ => {
@@ -115,6 +120,6 @@ pub fn call(s: State, line: &[u8], queue: &mut [u64], map: &mut [u8]) -> State {
     match script::command(line) {
         b'c' | b'g' => colours(s, line, queue, map),
         b'b' | b'i' | b'v' | b'w' | b'z' => show::answer(line, made(s, line, queue, map)),
-        _ => look(s, line, queue, map),
+        _ => kept(s, line, queue, map),
     }
 }

@@ -1,8 +1,8 @@
-// The MS622424's vectors of document 01 and the smallest examples of the rulings, printed one a line.
+// The MS622424's vectors of document 01 and the smallest examples of the rulings, printed one a line; then looks.
 //
-// stdin is the list of calls, and stdout was worked out by hand from document 01 and source document 004: what each
-// call answers, and after it the address, the counter and how many entries wait. A line of stdin is a letter, numbers
-// of two, four (*) or eight (**) hex digits, each behind a space, and the label that is printed:
+// stdin is the list of calls, and stdout was worked out by hand from document 01, source document 004 and request P5:
+// what each call answers, and after it the address, the counter and how many entries wait. A line of stdin is a
+// letter, numbers of two, four (*) or eight (**) hex digits, each behind a space, and the label that is printed:
 //   # a title
 //   i a chip of revision 5 on board 9 after a reset, with no label and no line
 //   s the state: address*, counter, red, green, command, read mode, revision, board, waiting; no label
@@ -12,7 +12,7 @@
 //   c a colour written: red, green, blue; g grey colours from one number to before another; no label and no line
 //   r read: select                               b blanking: slots**
 //   p pixel: mode, word**                        y timing signals: signals
-//   z reset
+//   z reset                                      ? look: place**
 ghost use Prim.Native.Nat.{_<_};
 
 mod calls;

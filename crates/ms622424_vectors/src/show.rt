@@ -1,6 +1,7 @@
 // What the vectors print: the line's label from a place on, and an answer.
 use ms622424_places::Answer;
 use ms622424_places::State;
+use vocabulary::Looked;
 use vocabulary::Shown;
 
 // Where the label of a line with an answer starts, or 0 where no line is printed.
@@ -45,4 +46,11 @@ pub fn colour(line: &[u8], p: Shown) {
     script::rest(line, 14);
     let numbers = [p.refusal, p.red, p.green, p.blue];
     script::fields(b": refusal # colour % % %\n", &numbers);
+}
+
+pub fn looked(line: &[u8], l: Looked) {
+    script::rest(line, 11);
+    script::number(b": refusal ", l.refusal as u64);
+    script::hex(b" value ", l.value as u64, 4);
+    script::line_end();
 }

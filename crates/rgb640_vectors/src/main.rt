@@ -1,8 +1,9 @@
-// Prints document 01's vectors of chip C and the smallest example of each of its rulings: a label, then the answers.
+// Prints document 01's vectors of chip C, the smallest example of each of its rulings, and looks: a label, then the
+// answers.
 //
-// stdin is the list of calls, and stdout was worked out by hand from document 01 and source document 001. An answer is
-// the refusal and the value in hex. A line of stdin is a letter, numbers of two or four (*) hex digits, each behind a
-// space, and a label where something is printed below it:
+// stdin is the list of calls, and stdout was worked out by hand from document 01, source document 001 and request P5.
+// An answer is the refusal and the value in hex. A line of stdin is a letter, numbers of two, four (*) or eight (**)
+// hex digits, each behind a space, and a label where something is printed below it:
 //   # a label alone
 //   t the lent table: 4i + 1 at its place i, so that entry e reads as 3e, 3e + 1 and 3e + 2 modulo 256, and most of its
 //     numbers are beyond 1,023
@@ -12,6 +13,7 @@
 //   . the end of a line of answers
 //   e an entry of the table*                     i the index and the place
 //   f the fetched entry                          l the latches and register 0x000E
+//   ? look: place**
 mod print;
 
 use libc::STDIN_FILENO;
@@ -96,6 +98,10 @@ fn turn(s: State, size: usize, line: &[u8], table: &mut [u16; 3072]) -> State {
     match script::command(line) {
         b't' => fill(table),
         b'e' => print::entry(line, table),
+        b'?' => print::look(
+            line,
+            rgb640_look::zk_c_look(s, script::long(line, 2), table),
+        ),
         b'w' | b'r' => return lent(s, size, line, table),
         _ => return alone(s, line),
     }

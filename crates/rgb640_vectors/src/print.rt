@@ -1,6 +1,7 @@
 // What the vectors print: a label, then answers as refusal/value, an index with the place in the order, or a colour.
 use rgb640::Answer;
 use rgb640::State;
+use vocabulary::Looked;
 
 fn decimal(n: u16) {
     script::number(b" ", n as u64);
@@ -44,4 +45,12 @@ pub fn entry(line: &[u8], t: &[u16; 3072]) {
         let at = 3 * e;
         three(t[at], t[at + 1], t[at + 2]);
     }
+}
+
+// A look's refusal and number, behind its label.
+pub fn look(line: &[u8], l: Looked) {
+    script::rest(line, 11);
+    script::number(b" ", l.refusal as u64);
+    script::hex(b"/", l.value as u64, 4);
+    script::line_end();
 }
