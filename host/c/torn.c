@@ -1,4 +1,4 @@
-/* The README's C example: a colour on chip A, torn by a read of the address. */
+/* The README's C example: a colour on chip A, looked at halfway, and torn by a read of the address. */
 #include "zikombaru.h"
 
 #include <stdio.h>
@@ -13,8 +13,10 @@ static void write_byte(uint8_t select, uint8_t byte) {
 int main(void) {
     write_byte(0, 0x10); /* the address */
     write_byte(1, 0x03); /* red */
-    zk_a_answer look = zk_a_read(s, 0, colours, sizeof colours, overlays, sizeof overlays);
-    printf("the read: refusal %u, value %02x\n", look.refusal, look.value);
-    printf("the pointer: %u, and %u after the read\n", s.pointer, look.state.pointer);
+    zk_looked look = zk_a_look(s, ZK_A_LOOK_ADDRESS, colours, sizeof colours, overlays, sizeof overlays);
+    printf("the look: refusal %u, value %02x, and the pointer stays %u\n", look.refusal, look.value, s.pointer);
+    zk_a_answer read = zk_a_read(s, 0, colours, sizeof colours, overlays, sizeof overlays);
+    printf("the read: refusal %u, value %02x, and the pointer becomes %u\n", read.refusal, read.value,
+           read.state.pointer);
     return 0;
 }
