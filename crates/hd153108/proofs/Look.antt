@@ -29,17 +29,7 @@ module _ (c : Chip) (g : InRange c) where
       × Tells 0x4 (s .readmask) × Tells 0x5 (s .blinkmask) × Tells 0x6 (s .control) × Tells 0x7 (s .clock .timing)
       × Tells 0x8 (s .clock .position)
   unfolding found pick meets
-  look-state = (
-    look-found 0x0 _ refl,
-    look-found 0x1 _ refl,
-    look-found 0x2 _ refl,
-    look-found 0x3 _ refl,
-    look-found 0x4 _ refl,
-    look-found 0x5 _ refl,
-    look-found 0x6 _ refl,
-    look-found 0x7 _ refl,
-    look-found 0x8 _ refl,
-  )
+  look-state = search look-found
 
   abbrev rows : List Block
   rows = lookPlaces c

@@ -30,17 +30,7 @@ module _ (c : Chip) (g : InRange c) where
       × Tells 0x4 (c .control .command) × Tells 0x5 (c .control .readmode) × Tells 0x6 (c .ident .revision)
       × Tells 0x7 (c .ident .board) × Tells 0x8 (length (c .waiting))
   unfolding found pick meets
-  look-state = (
-    look-found 0x0 _ refl,
-    look-found 0x1 _ refl,
-    look-found 0x2 _ refl,
-    look-found 0x3 _ refl,
-    look-found 0x4 _ refl,
-    look-found 0x5 _ refl,
-    look-found 0x6 _ refl,
-    look-found 0x7 _ refl,
-    look-found 0x8 _ refl,
-  )
+  look-state = search look-found
 
   -- the map, byte by byte as stored
   pub look-map : (place i : ℕ) → place ≡ 0x10000 + i → i < 24576 → Tells place (getD (c .map) i 0)

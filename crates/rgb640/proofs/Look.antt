@@ -32,16 +32,7 @@ module _ (c : Chip) (g : InRange c) where
       × Tells 0x4 (s .fetched .red) × Tells 0x5 (s .fetched .green) × Tells 0x6 (s .fetched .blue)
       × Tells 0x7 (s .update)
   unfolding found pick meets
-  look-state = (
-    look-found 0x0 _ refl,
-    look-found 0x1 _ refl,
-    look-found 0x2 _ refl,
-    look-found 0x3 _ refl,
-    look-found 0x4 _ refl,
-    look-found 0x5 _ refl,
-    look-found 0x6 _ refl,
-    look-found 0x7 _ refl,
-  )
+  look-state = search look-found
 
   -- the table, number by number as lent
   pub look-table : (place i : ℕ) → place ≡ 0x10000 + i → i < 3072 → Tells place (getD (c .table) i 0)
