@@ -21,6 +21,7 @@ FNR == 1 {
     opening = 0
     inside = 0
     infn = 0
+    attribute = ""
     n = split(FILENAME, path, "/")
     rattle = FILENAME ~ /\.rt$/
     walk = path[n] == "Proof.antt"
@@ -40,11 +41,17 @@ rattle && infn == 2 {
     if ($0 ~ /^\}/) { infn = 0; flush() } else add($0)
     next
 }
+rattle && /^#\[/ { # an attribute is of the thing behind it
+    flush()
+    attribute = attribute $0
+    next
+}
 rattle && /^(pub )?(extern "C" )?fn / {
     called = $0
     sub(/^.*fn /, "", called)
     sub(/[(<].*$/, "", called)
-    begin("promises", called, "")
+    begin("promises", called, attribute)
+    attribute = ""
     add($0)
     infn = 1
     if ($0 ~ /[{] .* [}]$/) { infn = 0; flush() } else if ($0 ~ /\{$/) { infn = 2; begin("code", called, "") }
@@ -54,7 +61,8 @@ rattle && /^(pub )?(struct|enum|const|type) / {
     called = $0
     sub(/^(pub )?(struct|enum|const|type) /, "", called)
     sub(/[^A-Za-z0-9_].*$/, "", called)
-    begin("definitions", called, "")
+    begin("definitions", called, attribute)
+    attribute = ""
     add($0)
     next
 }
