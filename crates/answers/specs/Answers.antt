@@ -8,7 +8,7 @@ use Rattle.vocabulary.specs.Choice.{pick}
 use Rattle.hex.specs.Hex.{hex}
 use Rattle.answers.specs.declared.Text.{Text}
 use Rattle.answers.specs.declared.News.{News}
-use Rattle.answers.specs.declared.News.the-variants.{Nothing, Moved, Value, Colour, Sync, Ten}
+use Rattle.answers.specs.declared.News.the-variants.{Nothing, Moved, Value, Look, Colour, Sync, Ten}
 
 -- a number of at most so many digits in decimal, without leading zeros
 unfoldable pub decimal : ℕ → ℕ → List ℕ
@@ -29,9 +29,12 @@ movedText n = 109 ∷ 111 ∷ 118 ∷ 101 ∷ 100 ∷ 61 ∷ decimal 5 n ++ 10 �
 abbrev pub refusedText : ℕ → List ℕ
 refusedText n = 114 ∷ 101 ∷ 102 ∷ 117 ∷ 115 ∷ 101 ∷ 100 ∷ 61 ∷ decimal 3 n ++ 10 ∷ []
 
--- "value=" HH, "colour=" RRGGBB, "sync=" S, "ten=" HHH
+-- "value=" HH, "look=" HHHH, "colour=" RRGGBB, "sync=" S, "ten=" HHH
 abbrev pub valueText : ℕ → List ℕ
 valueText v = 118 ∷ 97 ∷ 108 ∷ 117 ∷ 101 ∷ 61 ∷ hex 2 v ++ 10 ∷ []
+
+abbrev pub lookText : ℕ → List ℕ
+lookText v = 108 ∷ 111 ∷ 111 ∷ 107 ∷ 61 ∷ hex 4 v ++ 10 ∷ []
 
 abbrev pub colourText : ℕ → ℕ → ℕ → List ℕ
 colourText r g b = 99 ∷ 111 ∷ 108 ∷ 111 ∷ 117 ∷ 114 ∷ 61 ∷ hex 2 r ++ hex 2 g ++ hex 2 b ++ 10 ∷ []
@@ -47,6 +50,7 @@ abbrev pub newsText : News → List ℕ
 newsText Nothing = okText
 newsText (Moved n) = movedText n
 newsText (Value v) = valueText v
+newsText (Look v) = lookText v
 newsText (Colour r g b) = colourText r g b
 newsText (Sync s) = syncText s
 newsText (Ten t) = tenText t

@@ -17,6 +17,7 @@ pub enum News {
     Nothing,
     Moved(u16),
     Value(u8),
+    Look(u16),
     Colour(u8, u8, u8),
     Sync(u8),
     Ten(u16),

@@ -59,6 +59,7 @@ pub fn line(news: News) -> Text
         News::Nothing => answers::ok(),
         News::Moved(n) => count(*b"moved=..........", 6, 5, n),
         News::Value(v) => field(*b"value=..........", 6, 2, v as u16),
+        News::Look(v) => field(*b"look=...........", 5, 4, v),
         News::Colour(r, g, b) => colour(r, g, b),
         News::Sync(s) => field(*b"sync=...........", 5, 1, s as u16),
         News::Ten(t) => field(*b"ten=............", 4, 3, t),

@@ -11,7 +11,7 @@ use Rattle.ms622424.proofs.Kept.{InOrder, accepted-in-order, does-accepts}
 use Rattle.ms622424_places.specs.Places.{Handed, view, Same}
 use Rattle.ms622424_places.proofs.Determined.{kept-once}
 use Rattle.log.specs.declared.Call.{Call}
-use Rattle.log.specs.declared.Call.the-variants.{Write, Read, Reset, OfA, OfB}
+use Rattle.log.specs.declared.Call.the-variants.{Write, Read, Reset, Look, OfA, OfB}
 use Rattle.log.specs.declared.CallB.the-variants.{Pixel, Blank, Sync}
 use Rattle.log.specs.declared.Chip as L
 use Rattle.log.specs.declared.Chip.the-variants.{ChipA, ChipB, ChipC}
@@ -34,6 +34,7 @@ by-turn : (call : Call) (c : B.Chip) → Either c (bTurn call c .left)
 by-turn (Write select byte) c = by-call (B.writes select byte) c
 by-turn (Read select) c = by-call (B.reads select) c
 by-turn Reset c = by-call B.resets c
+by-turn (Look place) c = by-call (B.looks place) c
 by-turn (OfA call) c = λ P stays ordered. stays refl
 by-turn (OfB (Pixel mode word)) c = by-call (B.pixels mode word) c
 by-turn (OfB (Blank slots)) c = by-call (B.blanks slots) c

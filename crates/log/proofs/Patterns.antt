@@ -13,7 +13,7 @@ use Rattle.log_pattern.specs.Pattern.{fits}
 use Rattle.log_pattern.proofs.Patterns.{fits-length}
 use Rattle.log.specs.declared.Line.{Line}
 use Rattle.log.specs.declared.Line.the-variants.{To, Expand, Bad}
-use Rattle.log.specs.declared.Call.the-variants.{Write, Read, OfA, OfB}
+use Rattle.log.specs.declared.Call.the-variants.{Write, Read, Look, OfA, OfB}
 use Rattle.log.specs.declared.CallA.the-variants.{Pixel as PixelA}
 use Rattle.log.specs.declared.CallB.the-variants.{Pixel as PixelB, Blank, Sync}
 use Rattle.log.specs.Log.{expands, shows, Form, said, lineOf}
@@ -73,6 +73,9 @@ module _ {a b c d : ℕ} (p : a ≡ c) where
 module _ {a c : ℕ} (p : a ≡ c) where
   pub says-read : To (Read a) ≡ To (Read c)
   says-read = rw p
+
+  pub says-look : To (Look a) ≡ To (Look c)
+  says-look = rw p
 
   pub says-blank : To (OfB (Blank a)) ≡ To (OfB (Blank c))
   says-blank = rw p

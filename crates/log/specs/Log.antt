@@ -9,7 +9,7 @@ use Rattle.log_pattern.specs.Pattern.{fits}
 use Rattle.log.specs.declared.Line.{Line}
 use Rattle.log.specs.declared.Line.the-variants.{To, Choose, Expand, Sheet, Bad}
 use Rattle.log.specs.declared.Chip.the-variants.{ChipA, ChipB, ChipC}
-use Rattle.log.specs.declared.Call.the-variants.{Write, Read, Reset, OfA, OfB}
+use Rattle.log.specs.declared.Call.the-variants.{Write, Read, Reset, Look, OfA, OfB}
 use Rattle.log.specs.declared.CallA.the-variants.{Tick, Pixel as PixelA}
 use Rattle.log.specs.declared.CallB.the-variants.{Pixel as PixelB, Blank, Sync}
 
@@ -24,7 +24,7 @@ abbrev pub form : List ℕ → (List ℕ → Line) → Form
 form pattern says = record { pattern = pattern; says = says }
 
 -- the patterns, byte by byte
--- "w#=##", "r#", "reset", "expand=#####"
+-- "w#=##", "r#", "reset", "look=#####", "expand=#####"
 abbrev pub writing : List ℕ
 writing = 119 ∷ 35 ∷ 61 ∷ 35 ∷ 35 ∷ []
 
@@ -33,6 +33,9 @@ reading = 114 ∷ 35 ∷ []
 
 abbrev pub resetting : List ℕ
 resetting = 114 ∷ 101 ∷ 115 ∷ 101 ∷ 116 ∷ []
+
+abbrev pub looking : List ℕ
+looking = 108 ∷ 111 ∷ 111 ∷ 107 ∷ 61 ∷ 35 ∷ 35 ∷ 35 ∷ 35 ∷ 35 ∷ []
 
 abbrev pub expanding : List ℕ
 expanding = 101 ∷ 120 ∷ 112 ∷ 97 ∷ 110 ∷ 100 ∷ 61 ∷ 35 ∷ 35 ∷ 35 ∷ 35 ∷ 35 ∷ []
@@ -109,6 +112,10 @@ choices =
 abbrev pub boardForms : List Form
 boardForms = form expanding (λ t. expands (number 1 7 t) (number 4 8 t)) ∷ form listing (λ t. Sheet) ∷ choices
 
+-- a look, a call that every chip has too: tried last, since few lines are looks
+abbrev pub lookForms : List Form
+lookForms = form looking (λ t. To (Look (number 5 5 t))) ∷ []
+
 -- ---- A line
 
 -- what the first form that a line has says; a line of no form, of any length, is bad
@@ -118,4 +125,4 @@ said (f ∷ fs) t = pick (fits (f .pattern) t) (f .says t) (said fs t)
 
 -- what a line says
 abbrev pub lineOf : List ℕ → Line
-lineOf t = said (callForms ++ aForms ++ bForms ++ boardForms) t
+lineOf t = said (callForms ++ aForms ++ bForms ++ boardForms ++ lookForms) t

@@ -1,8 +1,11 @@
-// The board's own lines of a port log: the expander, the sheet and the choice of a chip; or a bad line.
+// The board's own lines of a port log, the expander, the sheet and the choice of a chip; a look; or a bad line.
 //
-// The replay's line forms decide; they are `boardForms` of log's specs/Log.antt. Not modelled: as in log.
+// The replay's line forms decide; they are `boardForms` and `lookForms` of log's specs/Log.antt. Not modelled: as in
+// log.
 ghost use mathlib.Core.Path.{_≡_};
-ghost use Rattle.log.specs.Log.{said, boardForms, choices, expands};
+ghost use mathlib.Core.List.{_++_};
+ghost use Rattle.log.specs.Log.{said, boardForms, choices, lookForms, expands};
+use log::Call;
 use log::Chip;
 use log::Line;
 
@@ -19,9 +22,19 @@ fn expansion(width: u8, v: u16) -> Line
     Line::Bad
 }
 
-// A line that chooses a chip, or a bad one.
+// A look, or a bad line.
+fn look(t: &[u8]) -> Line
+    ensures { λ r. ⌜ r ≡ said lookForms (now (t .entry)) ⌝ }
+{
+    if log_pattern::fits(b"look=#####", t) {
+        return Line::To(Call::Look(hex_number::spelt(t, 5, 5)));
+    }
+    Line::Bad
+}
+
+// A line that chooses a chip, a look, or a bad line.
 fn choice(t: &[u8]) -> Line
-    ensures { λ r. ⌜ r ≡ said choices (now (t .entry)) ⌝ }
+    ensures { λ r. ⌜ r ≡ said (choices ++ lookForms) (now (t .entry)) ⌝ }
 {
     if log_pattern::fits(b"chip=153108", t) {
         return Line::Choose(Chip::ChipA);
@@ -32,12 +45,12 @@ fn choice(t: &[u8]) -> Line
     if log_pattern::fits(b"chip=640", t) {
         return Line::Choose(Chip::ChipC);
     }
-    Line::Bad
+    look(t)
 }
 
-// A line that makes no call on a chip, or a bad one.
+// A line of the board's own, a look, or a bad line.
 pub fn board_line(t: &[u8]) -> Line
-    ensures { λ r. ⌜ r ≡ said boardForms (now (t .entry)) ⌝ }
+    ensures { λ r. ⌜ r ≡ said (boardForms ++ lookForms) (now (t .entry)) ⌝ }
 {
     if log_pattern::fits(b"expand=#####", t) {
         return expansion(

@@ -1,9 +1,9 @@
-// The lines of a port log that one chip alone has, chip A's and chip B's; or one of the board's own.
+// The lines of a port log that one chip alone has, chip A's and chip B's; or one that log_board reads.
 //
 // The replay's line forms decide; they are `aForms` and `bForms` of log's specs/Log.antt. Not modelled: as in log.
 ghost use mathlib.Core.Path.{_≡_};
 ghost use mathlib.Core.List.{_++_};
-ghost use Rattle.log.specs.Log.{said, aForms, bForms, boardForms, shows};
+ghost use Rattle.log.specs.Log.{said, aForms, bForms, boardForms, lookForms, shows};
 use log::Call;
 use log::CallA;
 use log::CallB;
@@ -19,9 +19,9 @@ fn pixel(enable: u8, number: u8, byte: u8) -> Line
     Line::Bad
 }
 
-// A call that chip B alone has, or one of the board's own lines.
+// A call that chip B alone has, or a line that log_board reads.
 fn b_line(t: &[u8]) -> Line
-    ensures { λ r. ⌜ r ≡ said (bForms ++ boardForms) (now (t .entry)) ⌝ }
+    ensures { λ r. ⌜ r ≡ said (bForms ++ boardForms ++ lookForms) (now (t .entry)) ⌝ }
 {
     if log_pattern::fits(b"pixel=#########", t) {
         return Line::To(Call::OfB(CallB::Pixel(
@@ -40,7 +40,7 @@ fn b_line(t: &[u8]) -> Line
 
 // The same, or a call that chip A alone has.
 pub fn a_line(t: &[u8]) -> Line
-    ensures { λ r. ⌜ r ≡ said (aForms ++ bForms ++ boardForms) (now (t .entry)) ⌝ }
+    ensures { λ r. ⌜ r ≡ said (aForms ++ bForms ++ boardForms ++ lookForms) (now (t .entry)) ⌝ }
 {
     if log_pattern::fits(b"tick", t) {
         return Line::To(Call::OfA(CallA::Tick));

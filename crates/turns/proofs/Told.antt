@@ -10,8 +10,9 @@ use Rattle.vocabulary.proofs.Choice.{picks-first, picks-second}
 use Rattle.expand.specs.declared.Expanded.{Expanded}
 use Rattle.expand.specs.Expand.{meaning, expansion}
 use Rattle.answers.specs.declared.Text.{Text}
-use Rattle.answers.specs.Answers.{okText, badText, valueText, movedText, syncText, colourText, tenText, told, Says}
-use Rattle.turns.specs.Turns.{bad, done, valued, moved, signalled, poured, Took, expandText}
+use Rattle.answers.specs.Answers.{okText, badText, valueText, lookText, movedText, syncText, colourText, tenText}
+use Rattle.answers.specs.Answers.{told, Says}
+use Rattle.turns.specs.Turns.{bad, done, valued, sighted, moved, signalled, poured, Took, expandText}
 
 -- a colour's bytes come back out of the one number
 module _ (r g b : ℕ) (hr : r < 256) (hg : g < 256) where
@@ -34,6 +35,9 @@ module _ {C : Type 0} {text : Text} {left : C} {o p : Outcome C} (e : o ≡ p) (
 
   pub took-valued : Says text (told (o .refusal) (valueText (o .value))) → Took (Says text) left (valued p)
   took-valued s = rw (sym e) (record { says = s; leaves = l })
+
+  pub took-sighted : Says text (told (o .refusal) (lookText (o .value))) → Took (Says text) left (sighted p)
+  took-sighted s = rw (sym e) (record { says = s; leaves = l })
 
   pub took-moved : Says text (told (o .refusal) (movedText (o .count))) → Took (Says text) left (moved p)
   took-moved s = rw (sym e) (record { says = s; leaves = l })

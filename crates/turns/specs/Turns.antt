@@ -8,8 +8,8 @@ use Rattle.vocabulary.specs.Outcome.{Outcome}
 use Rattle.expand.specs.Expand.{expansion}
 use Rattle.answers.specs.declared.Text.{Text}
 use Rattle.answers.specs.declared.News.{News}
-use Rattle.answers.specs.Answers.{told, okText, badText, valueText, movedText, syncText, colourText, tenText}
-use Rattle.answers.specs.Answers.{newsText, Says}
+use Rattle.answers.specs.Answers.{told, okText, badText, valueText, lookText, movedText, syncText, colourText}
+use Rattle.answers.specs.Answers.{tenText, newsText, Says}
 
 -- the answer's bytes, and what is left: the chip, or the whole board, afterwards
 pub record Turn (C : Type 0) : Type 0 where
@@ -23,12 +23,15 @@ turn text left = record { text = text; left = left }
 abbrev pub bad : {C : Type 0} → C → Turn C
 bad c = turn badText c
 
--- an accepted call tells nothing; the value; the count of moved entries; the timing signals
+-- an accepted call tells nothing; the value; the number at a place; the count of moved entries; the timing signals
 abbrev pub done : {C : Type 0} → Outcome C → Turn C
 done o = turn (told (o .refusal) okText) (o .left)
 
 abbrev pub valued : {C : Type 0} → Outcome C → Turn C
 valued o = turn (told (o .refusal) (valueText (o .value))) (o .left)
+
+abbrev pub sighted : {C : Type 0} → Outcome C → Turn C
+sighted o = turn (told (o .refusal) (lookText (o .value))) (o .left)
 
 abbrev pub moved : {C : Type 0} → Outcome C → Turn C
 moved o = turn (told (o .refusal) (movedText (o .count))) (o .left)

@@ -1,13 +1,13 @@
 -- What a log line's call does to chip A, and the line that answers it.
 use Prim.Native.Nat.{ℕ}
 use mathlib.Core.List.{List}
-use Rattle.hd153108.specs.Hd153108.{Chip, chip, called, writes, reads, resets, ticks, pixels}
+use Rattle.hd153108.specs.Hd153108.{Chip, chip, called, writes, reads, resets, looks, ticks, pixels}
 use Rattle.log.specs.declared.Call.{Call}
-use Rattle.log.specs.declared.Call.the-variants.{Write, Read, Reset, OfA, OfB}
+use Rattle.log.specs.declared.Call.the-variants.{Write, Read, Reset, Look, OfA, OfB}
 use Rattle.log.specs.declared.CallA.{CallA}
 use Rattle.log.specs.declared.CallA.the-variants.{Tick, Pixel}
 use Rattle.answers.specs.Answers.{Says}
-use Rattle.turns.specs.Turns.{Turn, bad, done, valued, poured, Took}
+use Rattle.turns.specs.Turns.{Turn, bad, done, valued, sighted, poured, Took}
 use Rattle.turns_a.specs.declared.ATurn.{ATurn}
 
 abbrev pub aOwn : CallA → Chip → Turn Chip
@@ -18,6 +18,7 @@ abbrev pub aTurn : Call → Chip → Turn Chip
 aTurn (Write select byte) c = done (called (writes select byte) c)
 aTurn (Read select) c = valued (called (reads select) c)
 aTurn Reset c = done (called resets c)
+aTurn (Look place) c = sighted (called (looks place) c)
 aTurn (OfA call) c = aOwn call c
 aTurn (OfB call) c = bad c
 

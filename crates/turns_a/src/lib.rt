@@ -10,8 +10,8 @@ use log::Call;
 use log::CallA;
 ghost use Prim.Native.Nat.{ℕ};
 ghost use mathlib.Core.List.{List};
-ghost use Rattle.hd153108.specs.Hd153108.{chip, ticks, called};
-ghost use Rattle.turns.specs.Turns.{done, Told};
+ghost use Rattle.hd153108.specs.Hd153108.{chip, ticks, looks, called};
+ghost use Rattle.turns.specs.Turns.{done, sighted, Told};
 ghost use Rattle.turns_a.specs.Turns.{aTurn, aOwn, ATook};
 
 // Chip A after a call, and the answer.
@@ -40,6 +40,18 @@ fn ticked(s: State) -> ATurn
     ATurn {
         state: State { clock: k, ..s },
         text: answers_told::told(r.refusal, News::Nothing),
+    }
+}
+
+// A look at a place: the state as it is.
+fn look(s: State, place: u32, colours: &[u8], overlays: &[u8]) -> ATurn
+    ensures { λ t. ⌜ ATook t (now (colours .entry)) (now (overlays .entry))
+        (sighted (called (looks place) (chip s (now (colours .entry)) (now (overlays .entry))))) ⌝ }
+{
+    let r = hd153108_look::zk_a_look(s, place, colours, overlays);
+    ATurn {
+        state: s,
+        text: answers_told::told(r.refusal, News::Look(r.value)),
     }
 }
 
@@ -75,6 +87,7 @@ pub fn a_turn(s: State, call: Call, colours: &mut [u8], overlays: &mut [u8]) -> 
             told(r, News::Value(r.value))
         }
         Call::Reset => told(hd153108_reset::zk_a_reset(s), News::Nothing),
+        Call::Look(place) => look(s, place, colours, overlays),
         Call::OfA(call) => own(s, call, colours, overlays),
         Call::OfB(_) => ATurn {
             state: s,

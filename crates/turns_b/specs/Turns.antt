@@ -1,14 +1,14 @@
 -- What a log line's call does to chip B, and the line that answers it.
 use Prim.Native.Nat.{ℕ}
 use mathlib.Core.List.{List}
-use Rattle.ms622424.specs.Ms622424.{Chip, called, writes, reads, resets, blanks, pixels, signals}
+use Rattle.ms622424.specs.Ms622424.{Chip, called, writes, reads, resets, looks, blanks, pixels, signals}
 use Rattle.ms622424_places.specs.Places.{handed, view}
 use Rattle.log.specs.declared.Call.{Call}
-use Rattle.log.specs.declared.Call.the-variants.{Write, Read, Reset, OfA, OfB}
+use Rattle.log.specs.declared.Call.the-variants.{Write, Read, Reset, Look, OfA, OfB}
 use Rattle.log.specs.declared.CallB.{CallB}
 use Rattle.log.specs.declared.CallB.the-variants.{Pixel, Blank, Sync}
 use Rattle.answers.specs.Answers.{Says}
-use Rattle.turns.specs.Turns.{Turn, bad, done, valued, moved, signalled, poured, Took}
+use Rattle.turns.specs.Turns.{Turn, bad, done, valued, sighted, moved, signalled, poured, Took}
 use Rattle.turns_b.specs.declared.BTurn.{BTurn}
 
 abbrev pub bOwn : CallB → Chip → Turn Chip
@@ -20,6 +20,7 @@ abbrev pub bTurn : Call → Chip → Turn Chip
 bTurn (Write select byte) c = moved (called (writes select byte) c)
 bTurn (Read select) c = valued (called (reads select) c)
 bTurn Reset c = done (called resets c)
+bTurn (Look place) c = sighted (called (looks place) c)
 bTurn (OfA call) c = bad c
 bTurn (OfB call) c = bOwn call c
 

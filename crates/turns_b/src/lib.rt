@@ -11,9 +11,9 @@ use ms622424_places::Answer;
 use ms622424_places::State;
 ghost use Prim.Native.Nat.{ℕ};
 ghost use mathlib.Core.List.{List};
-ghost use Rattle.ms622424.specs.Ms622424.{signals as signalsCall, called};
+ghost use Rattle.ms622424.specs.Ms622424.{signals as signalsCall, looks, called};
 ghost use Rattle.ms622424_places.specs.Places.{handed, view, Same};
-ghost use Rattle.turns.specs.Turns.{signalled, Told};
+ghost use Rattle.turns.specs.Turns.{signalled, sighted, Told};
 ghost use Rattle.turns_b.specs.Turns.{bTurn, bOwn, BTook};
 
 // Chip B after a call, and the answer.
@@ -42,6 +42,20 @@ fn sync(s: State, signals: u8, queue: &[u64]) -> BTurn
 {
     let r = ms622424_signals::zk_b_sync(s, signals, queue);
     told(r, News::Sync(r.value))
+}
+
+// A look at a place: the state as it is.
+fn look(s: State, place: u32, queue: &[u64], map: &[u8]) -> BTurn
+    ensures { λ t. ⌜ BTook t (now (queue .entry)) (now (map .entry))
+        (sighted (called (looks place) (view (handed s (now (queue .entry)) (now (map .entry)))))) ⌝ }
+    ensures { λ t. ⌜ Same (handed s (now (queue .entry)) (now (map .entry)))
+        (handed (t .state) (now (queue .entry)) (now (map .entry))) ⌝ }
+{
+    let r = ms622424_look::zk_b_look(s, place, queue, map);
+    BTurn {
+        state: s,
+        text: answers_told::told(r.refusal, News::Look(r.value)),
+    }
 }
 
 // A call that chip B alone has.
@@ -84,6 +98,7 @@ pub fn b_turn(s: State, call: Call, queue: &mut [u64], map: &mut [u8]) -> BTurn
             told(r, News::Value(r.value))
         }
         Call::Reset => told(ms622424_reset::zk_b_reset(s, queue), News::Nothing),
+        Call::Look(place) => look(s, place, queue, map),
         Call::OfA(_) => BTurn {
             state: s,
             text: answers::bad(),

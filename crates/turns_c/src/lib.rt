@@ -8,9 +8,9 @@ use log::Call;
 use rgb640::Answer;
 use rgb640::State;
 ghost use mathlib.Core.Path.{_≡_};
-ghost use Rattle.rgb640.specs.Rgb640.{chip};
+ghost use Rattle.rgb640.specs.Rgb640.{chip, looks, called};
 ghost use Rattle.answers.specs.Answers.{Says, badText};
-ghost use Rattle.turns.specs.Turns.{Told};
+ghost use Rattle.turns.specs.Turns.{sighted, Told};
 ghost use Rattle.turns_c.specs.Turns.{cTurn, CTook};
 
 // Chip C after a call, and the answer.
@@ -27,6 +27,17 @@ fn told(r: Answer, news: News) -> CTurn
     CTurn {
         state: after,
         text: answers_told::told(r.refusal, news),
+    }
+}
+
+// A look at a place: the state as it is.
+fn look(s: State, place: u32, table: &[u16]) -> CTurn
+    ensures { λ t. ⌜ CTook t (now (table .entry)) (sighted (called (looks place) (chip s (now (table .entry))))) ⌝ }
+{
+    let r = rgb640_look::zk_c_look(s, place, table);
+    CTurn {
+        state: s,
+        text: answers_told::told(r.refusal, News::Look(r.value)),
     }
 }
 
@@ -54,6 +65,7 @@ pub fn c_turn(s: State, call: Call, table: &mut [u16]) -> CTurn
             told(r, News::Value(r.value))
         }
         Call::Reset => told(rgb640_reset::zk_c_reset(s), News::Nothing),
+        Call::Look(place) => look(s, place, table),
         Call::OfA(_) => bad(s),
         Call::OfB(_) => bad(s),
     }

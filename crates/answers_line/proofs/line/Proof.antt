@@ -8,6 +8,7 @@ line-spec =
     tie.close
     (tie.spec (λ c. search needs) (λ c. search needs) (λ c. search needs) (λ c. search needs) (λ c. search needs)
     (λ c. search needs) (λ c. search needs) (λ c. search needs) (λ c. search needs) (λ c. search needs)
-    (λ c. search needs) (λ c. search needs) (λ c. search needs) (λ c. search needs) (λ c. search (says-news, needs))
+    (λ c. search needs) (λ c. search needs) (λ c. search needs) (λ c. search needs) (λ c. search needs)
+    (λ c. search needs) (λ c. search (says-news, needs)) (λ c. search (says-news, needs))
     (λ c. search (says-news, needs)) (λ c. search (says-news, needs)) (λ c. search (says-news, needs))
     (λ c. search (says-news, needs)) (λ c. search (says-news, needs)))

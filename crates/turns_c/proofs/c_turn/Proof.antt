@@ -12,5 +12,5 @@ c-turn-spec =
     (tie.spec (λ c. search needs) (λ c κs. search needs) (λ c κs. search needs) (λ c. search needs)
     (λ c κs. search needs) (λ c κs. search needs) (λ c. search needs) (λ c κs. search needs) (λ c κs. search needs)
     (λ c. search needs) (λ c κs. search needs) (λ c. search needs) (λ c κs. search needs) (λ c. search needs)
-    (λ c. search arms) (λ c. search needs) (λ c. search arms) (λ c. search arms) (λ c. search arms)
-    (λ c. search arms))
+    (λ c κs. search needs) (λ c. search needs) (λ c. search arms) (λ c. search needs) (λ c. search arms)
+    (λ c. search arms) (λ c. search needs) (λ c. search arms) (λ c. search arms) (λ c. search arms))
