@@ -8,7 +8,7 @@ use Rattle.vocabulary.specs.Choice.{pick}
 use Rattle.hex.specs.Hex.{hex}
 use Rattle.answers.specs.declared.Text.{Text}
 use Rattle.answers.specs.declared.News.{News}
-use Rattle.answers.specs.declared.News.the-variants.{Nothing, Moved, Value, Look, Colour, Sync, Ten}
+use Rattle.answers.specs.declared.News.the-variants.{Moved, Value, Look, Colour, Sync, Ten}
 
 -- a number of at most so many digits in decimal, without leading zeros
 unfoldable pub decimal : ℕ → ℕ → List ℕ
@@ -47,7 +47,6 @@ tenText t = 116 ∷ 101 ∷ 110 ∷ 61 ∷ hex 3 t ++ 10 ∷ []
 
 -- what an accepted call tells
 abbrev pub newsText : News → List ℕ
-newsText Nothing = okText
 newsText (Moved n) = movedText n
 newsText (Value v) = valueText v
 newsText (Look v) = lookText v

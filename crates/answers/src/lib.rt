@@ -12,9 +12,8 @@ pub struct Text {
     pub len: usize,
 }
 
-// What an accepted call tells.
+// What an accepted call tells, where it tells something.
 pub enum News {
-    Nothing,
     Moved(u16),
     Value(u8),
     Look(u16),

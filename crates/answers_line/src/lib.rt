@@ -56,7 +56,6 @@ pub fn line(news: News) -> Text
     ensures { λ r. ⌜ Says r (newsText news) ⌝ }
 {
     match news {
-        News::Nothing => answers::ok(),
         News::Moved(n) => count(*b"moved=..........", 6, 5, n),
         News::Value(v) => field(*b"value=..........", 6, 2, v as u16),
         News::Look(v) => field(*b"look=...........", 5, 4, v),

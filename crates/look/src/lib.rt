@@ -4,11 +4,11 @@
 // modelled here: any place.
 use vocabulary::Looked;
 ghost use mathlib.Core.Path.{_≡_};
-ghost use Rattle.vocabulary.specs.Look.{there, lookAnswer, unseen};
+ghost use Rattle.vocabulary.specs.Look.{seen as seenAt, unseen};
 
 // The number that stands at a place.
 pub fn seen(value: u16) -> Looked
-    ensures { λ r. ⌜ r ≡ lookAnswer (there value) ⌝ }
+    ensures { λ r. ⌜ r ≡ seenAt value ⌝ }
 {
     Looked {
         refusal: 0,
@@ -18,7 +18,7 @@ pub fn seen(value: u16) -> Looked
 
 // The same of a byte.
 pub fn seen_byte(value: u8) -> Looked
-    ensures { λ r. ⌜ r ≡ lookAnswer (there value) ⌝ }
+    ensures { λ r. ⌜ r ≡ seenAt value ⌝ }
 {
     seen(value as u16)
 }

@@ -1,9 +1,8 @@
 -- Laws of a read: what an accepted one answers, and when it is refused. Assumes nothing.
-use Prim.Native.Nat.{ℕ, _≤_}
+use Prim.Native.Nat.{ℕ}
 use mathlib.Core.Path.{_≡_, refl, sym, ap, _∙_}
 use mathlib.Core.Bool.{true, false, not, _&&_}
 use mathlib.Core.List.{[], _∷_}
-use native.Mathlib.Omega.{arith}
 use borrow.Author.Tests.{eq-eqb, ne-eqb}
 use lib.Dec.{eqb}
 use lib.ListN.{length, List·getD-eq-default}
@@ -13,6 +12,7 @@ use Rattle.vocabulary.specs.Component.{Component, green, blue}
 use Rattle.vocabulary.specs.Choice.{pick}
 use Rattle.vocabulary.specs.Face.{calledBy}
 use Rattle.vocabulary.proofs.Call.{stops, goes-on}
+use Rattle.vocabulary.proofs.Range.{over-seven}
 use Rattle.ms622424.specs.declared.Port.{Port}
 use Rattle.ms622424.specs.Ms622424.{Register, none, accessModes, Chip, InRange, registerAt, selected, withPort}
 use Rattle.ms622424.specs.Ms622424.{mark, statusOf, statusByte, fresh, buffer, bufferByte, bufferStepped}
@@ -32,12 +32,6 @@ green-read-keeps p = refl
 pub fresh-status : (c : Chip) → statusByte (fresh c) ≡ 24
 unfolding statusByte statusOf mark pick
 fresh-status c = refl
-
-over-three : (n : ℕ) → (n ≡ 0 → ⊥) → (n ≡ 1 → ⊥) → (n ≡ 2 → ⊥) → (n ≡ 3 → ⊥) → 4 ≤ n
-over-three n a b d e = omega arith
-
-over-seven : (n : ℕ) → 4 ≤ n → (n ≡ 4 → ⊥) → (n ≡ 5 → ⊥) → (n ≡ 6 → ⊥) → (n ≡ 7 → ⊥) → 8 ≤ n
-over-seven n l a b d e = omega arith
 
 module _ (select : ℕ) (c : Chip) (h : InRange c) where
   -- a register that is read
@@ -93,6 +87,6 @@ module _ (select : ℕ) (c : Chip) (h : InRange c) where
       → (select ≡ 5 → ⊥) → (select ≡ 6 → ⊥) → (select ≡ 7 → ⊥) → refusing 3 0 c ≡ called (reads select) c
   unfolding registerAt readable
   not-read a b d e f g i j =
-      let over = over-seven select (over-three select a b d e) f g i j in
+      let over = over-seven select a b d e f g i j in
       let k = selected (c .port) in
       read-no-access (ap (λ (r : Register). readable r k) (List·getD-eq-default accessModes none over))

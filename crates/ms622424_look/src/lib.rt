@@ -9,18 +9,33 @@ use look::seen_byte;
 use ms622424_places::State;
 use ms622424_range::standing_tables;
 use vocabulary::Looked;
-ghost use Prim.Native.Nat.{ℕ};
+ghost use Prim.Native.Nat.{_≤_};
 ghost use mathlib.Core.Path.{_≡_};
-ghost use mathlib.Core.List.{List};
 ghost use lib.ListN.{length};
-ghost use Rattle.vocabulary.specs.Look.{found, looking, lookAnswer};
-ghost use Rattle.ms622424.specs.Ms622424.{lookPlaces, looks, called};
-ghost use Rattle.ms622424_places.specs.Places.{colours, handed, view};
+ghost use Rattle.vocabulary.specs.Look.{looking};
+ghost use Rattle.ms622424.specs.Ms622424.{Chip, InRange, looks, called};
+ghost use Rattle.ms622424_places.specs.Places.{handed, view};
 
-// Places 0 to 8, of the state and how many wait; there is none from 9 to 0xFFFF.
-fn state_look(s: State, place: u16) -> Looked
-    ensures { λ r. ⌜ ((queue map : List ℕ) → length (colours (s .fifo) queue) ≡ s .fifo .waiting
-        → r ≡ lookAnswer (found (lookPlaces (view (handed s queue map))) place)) ⌝ }
+// Past the state's places: the map's bytes from 0x10000 on.
+fn map_look(place: u32, map: &[u8]) -> Looked
+    requires { ⌜ 9 ≤ place ⌝ }
+    requires { ⌜ length (now map) ≡ 24576 ⌝ }
+    ensures { λ r. ⌜ ((c : Chip) → InRange c → c .map ≡ now (map .entry) → looking r c ≡ called (looks place) c) ⌝ }
+{
+    if place < 0x10000 {
+        return refused(3);
+    }
+    if place < 0x16000 {
+        return seen_byte(map[(place - 0x10000) as usize]);
+    }
+    refused(3)
+}
+
+// A look at a chip in range: places 0 to 8 are of the state, and how many wait.
+fn look_at(s: State, place: u32, queue: &[u64], map: &[u8]) -> Looked
+    requires { ⌜ InRange (view (handed s (now queue) (now map))) ⌝ }
+    ensures { λ r. ⌜ looking r (view (handed s (now (queue .entry)) (now (map .entry))))
+        ≡ called (looks place) (view (handed s (now (queue .entry)) (now (map .entry)))) ⌝ }
 {
     match place {
         0 => seen(s.port.address),
@@ -32,11 +47,11 @@ fn state_look(s: State, place: u16) -> Looked
         6 => seen_byte(s.ident.revision),
         7 => seen_byte(s.ident.board),
         8 => seen_byte(s.fifo.waiting),
-        _ => refused(3),
+        _ => map_look(place, map),
     }
 }
 
-// A look at a place: the state below 0x10000, the map's bytes from there on.
+// A look at a place.
 #[no_mangle]
 pub extern "C" fn zk_b_look(s: State, place: u32, queue: &[u64], map: &[u8]) -> Looked
     ensures { λ r. ⌜ looking r (view (handed s (now (queue .entry)) (now (map .entry))))
@@ -46,11 +61,5 @@ pub extern "C" fn zk_b_look(s: State, place: u32, queue: &[u64], map: &[u8]) -> 
     if refusal != 0 {
         return refused(refusal);
     }
-    if place < 0x10000 {
-        return state_look(s, place as u16);
-    }
-    if place < 0x16000 {
-        return seen_byte(map[(place - 0x10000) as usize]);
-    }
-    refused(3)
+    look_at(s, place, queue, map)
 }

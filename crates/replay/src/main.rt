@@ -93,9 +93,9 @@ fn rest(chunk: &[u8], at: usize, got: usize) -> &[u8]
 }
 
 // The answer behind what waits: its text, and behind it the page's first bytes.
-fn say(f: Fed, page: &[u8], out: &mut [u8], waiting: usize) -> usize {
+fn say(f: Fed, page: &[u8], out: &mut [u8; 65536], waiting: usize) -> usize {
     let bytes = f.step.text.bytes;
-    let at = printer::say_first(&bytes, f.step.text.len, out, waiting);
+    let at = printer::say_text(bytes, f.step.text.len, out, waiting);
     printer::say_first(page, f.step.listed, out, at)
 }
 

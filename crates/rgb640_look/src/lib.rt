@@ -9,15 +9,32 @@ use look::seen_byte;
 use rgb640::State;
 use rgb640_range::standing_of;
 use vocabulary::Looked;
-ghost use Prim.Native.Nat.{ℕ};
+ghost use Prim.Native.Nat.{_≤_};
 ghost use mathlib.Core.Path.{_≡_};
-ghost use mathlib.Core.List.{List};
-ghost use Rattle.vocabulary.specs.Look.{found, looking, lookAnswer};
-ghost use Rattle.rgb640.specs.Rgb640.{chip, lookPlaces, looks, called};
+ghost use lib.ListN.{length};
+ghost use Rattle.vocabulary.specs.Look.{looking};
+ghost use Rattle.rgb640.specs.Rgb640.{chip, InRange, looks, called};
 
-// Places 0 to 7, of the state; there is none from 8 to 0xFFFF.
-fn state_look(s: State, place: u16) -> Looked
-    ensures { λ r. ⌜ ((t : List ℕ) → r ≡ lookAnswer (found (lookPlaces (chip s t)) place)) ⌝ }
+// Past the state's places: the table's numbers from 0x10000 on.
+fn table_look(place: u32, table: &[u16]) -> Looked
+    requires { ⌜ 8 ≤ place ⌝ }
+    requires { ⌜ length (now table) ≡ 3072 ⌝ }
+    ensures { λ r. ⌜ ((s : State) → InRange (chip s (now (table .entry)))
+        → looking r (chip s (now (table .entry))) ≡ called (looks place) (chip s (now (table .entry)))) ⌝ }
+{
+    if place < 0x10000 {
+        return refused(3);
+    }
+    if place < 0x10C00 {
+        return seen(table[(place - 0x10000) as usize]);
+    }
+    refused(3)
+}
+
+// A look at a chip in range: places 0 to 7 are of the state.
+fn look_at(s: State, place: u32, table: &[u16]) -> Looked
+    requires { ⌜ InRange (chip s (now table)) ⌝ }
+    ensures { λ r. ⌜ looking r (chip s (now (table .entry))) ≡ called (looks place) (chip s (now (table .entry))) ⌝ }
 {
     match place {
         0 => seen(s.index),
@@ -28,11 +45,11 @@ fn state_look(s: State, place: u16) -> Looked
         5 => seen(s.fetched.green),
         6 => seen(s.fetched.blue),
         7 => seen_byte(s.update),
-        _ => refused(3),
+        _ => table_look(place, table),
     }
 }
 
-// A look at a place: the state below 0x10000, the table's numbers from there on.
+// A look at a place.
 #[no_mangle]
 pub extern "C" fn zk_c_look(s: State, place: u32, table: &[u16]) -> Looked
     ensures { λ r. ⌜ looking r (chip s (now (table .entry))) ≡ called (looks place) (chip s (now (table .entry))) ⌝ }
@@ -41,11 +58,5 @@ pub extern "C" fn zk_c_look(s: State, place: u32, table: &[u16]) -> Looked
     if refusal != 0 {
         return refused(refusal);
     }
-    if place < 0x10000 {
-        return state_look(s, place as u16);
-    }
-    if place < 0x10C00 {
-        return seen(table[(place - 0x10000) as usize]);
-    }
-    refused(3)
+    look_at(s, place, table)
 }

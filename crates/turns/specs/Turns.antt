@@ -7,9 +7,8 @@ use Rattle.vocabulary.specs.Choice.{pick}
 use Rattle.vocabulary.specs.Outcome.{Outcome}
 use Rattle.expand.specs.Expand.{expansion}
 use Rattle.answers.specs.declared.Text.{Text}
-use Rattle.answers.specs.declared.News.{News}
 use Rattle.answers.specs.Answers.{told, okText, badText, valueText, lookText, movedText, syncText, colourText}
-use Rattle.answers.specs.Answers.{tenText, newsText, Says}
+use Rattle.answers.specs.Answers.{tenText, Says}
 
 -- the answer's bytes, and what is left: the chip, or the whole board, afterwards
 pub record Turn (C : Type 0) : Type 0 where
@@ -49,9 +48,9 @@ pub record Took {C : Type 0} (Said : List ℕ → Type 0) (left : C) (t : Turn C
   pub says : Said (t .text)
   pub leaves : left ≡ t .left
 
--- an answer that was told: its refusal or the news, with the state that it hands back
-pub record Told {S : Type 0} (text : Text) (state : S) (refusal : ℕ) (news : News) (given : S) : Type 0 where
-  pub says : Says text (told refusal (newsText news))
+-- an answer that was told: its refusal or an accepted call's line, with the state that it hands back
+pub record Told {S : Type 0} (text : Text) (state : S) (refusal : ℕ) (line : List ℕ) (given : S) : Type 0 where
+  pub says : Says text (told refusal line)
   pub keeps : state ≡ given
 
 -- ---- The expander: of the widths that a line lets through, 6 is 6 and any other 8

@@ -11,7 +11,8 @@ use log::CallA;
 ghost use Prim.Native.Nat.{ℕ};
 ghost use mathlib.Core.List.{List};
 ghost use Rattle.hd153108.specs.Hd153108.{chip, ticks, looks, called};
-ghost use Rattle.turns.specs.Turns.{done, sighted, Told};
+ghost use Rattle.answers.specs.Answers.{okText, newsText};
+ghost use Rattle.turns.specs.Turns.{done as doneTurn, sighted, Told};
 ghost use Rattle.turns_a.specs.Turns.{aTurn, aOwn, ATook};
 
 // Chip A after a call, and the answer.
@@ -22,7 +23,7 @@ pub struct ATurn {
 
 // An answer told: the state that it hands back, and its refusal or the news.
 fn told(r: Answer, news: News) -> ATurn
-    ensures { λ t. ⌜ Told (t .text) (t .state) (r .refusal) news (r .state) ⌝ }
+    ensures { λ t. ⌜ Told (t .text) (t .state) (r .refusal) (newsText news) (r .state) ⌝ }
 {
     let after = r.state;
     ATurn {
@@ -31,15 +32,26 @@ fn told(r: Answer, news: News) -> ATurn
     }
 }
 
+// The same of a call that tells nothing.
+fn done(r: Answer) -> ATurn
+    ensures { λ t. ⌜ Told (t .text) (t .state) (r .refusal) okText (r .state) ⌝ }
+{
+    let after = r.state;
+    ATurn {
+        state: after,
+        text: answers_told::done(r.refusal),
+    }
+}
+
 // A tick of the clock.
 fn ticked(s: State) -> ATurn
-    ensures { λ t. ⌜ ((cs os : List ℕ) → ATook t cs os (done (called ticks (chip s cs os)))) ⌝ }
+    ensures { λ t. ⌜ ((cs os : List ℕ) → ATook t cs os (doneTurn (called ticks (chip s cs os)))) ⌝ }
 {
     let r = hd153108_tick::zk_a_step(s.clock);
     let k = r.clock;
     ATurn {
         state: State { clock: k, ..s },
-        text: answers_told::told(r.refusal, News::Nothing),
+        text: answers_told::done(r.refusal),
     }
 }
 
@@ -80,13 +92,13 @@ pub fn a_turn(s: State, call: Call, colours: &mut [u8], overlays: &mut [u8]) -> 
     match call {
         Call::Write(select, byte) => {
             let r = hd153108_write::zk_a_write(s, select, byte, colours, overlays);
-            told(r, News::Nothing)
+            done(r)
         }
         Call::Read(select) => {
             let r = hd153108_read::zk_a_read(s, select, colours, overlays);
             told(r, News::Value(r.value))
         }
-        Call::Reset => told(hd153108_reset::zk_a_reset(s), News::Nothing),
+        Call::Reset => done(hd153108_reset::zk_a_reset(s)),
         Call::Look(place) => look(s, place, colours, overlays),
         Call::OfA(call) => own(s, call, colours, overlays),
         Call::OfB(_) => ATurn {

@@ -13,6 +13,7 @@ ghost use Prim.Native.Nat.{ℕ};
 ghost use mathlib.Core.List.{List};
 ghost use Rattle.ms622424.specs.Ms622424.{signals as signalsCall, looks, called};
 ghost use Rattle.ms622424_places.specs.Places.{handed, view, Same};
+ghost use Rattle.answers.specs.Answers.{okText, newsText};
 ghost use Rattle.turns.specs.Turns.{signalled, sighted, Told};
 ghost use Rattle.turns_b.specs.Turns.{bTurn, bOwn, BTook};
 
@@ -24,12 +25,23 @@ pub struct BTurn {
 
 // An answer told: the state that it hands back, and its refusal or the news.
 fn told(r: Answer, news: News) -> BTurn
-    ensures { λ t. ⌜ Told (t .text) (t .state) (r .refusal) news (r .state) ⌝ }
+    ensures { λ t. ⌜ Told (t .text) (t .state) (r .refusal) (newsText news) (r .state) ⌝ }
 {
     let after = r.state;
     BTurn {
         state: after,
         text: answers_told::told(r.refusal, news),
+    }
+}
+
+// The same of a call that tells nothing.
+fn done(r: Answer) -> BTurn
+    ensures { λ t. ⌜ Told (t .text) (t .state) (r .refusal) okText (r .state) ⌝ }
+{
+    let after = r.state;
+    BTurn {
+        state: after,
+        text: answers_told::done(r.refusal),
     }
 }
 
@@ -97,7 +109,7 @@ pub fn b_turn(s: State, call: Call, queue: &mut [u64], map: &mut [u8]) -> BTurn
             let r = ms622424_read::zk_b_read(s, select, queue, map);
             told(r, News::Value(r.value))
         }
-        Call::Reset => told(ms622424_reset::zk_b_reset(s, queue), News::Nothing),
+        Call::Reset => done(ms622424_reset::zk_b_reset(s, queue)),
         Call::Look(place) => look(s, place, queue, map),
         Call::OfA(_) => BTurn {
             state: s,

@@ -9,7 +9,7 @@ use rgb640::Answer;
 use rgb640::State;
 ghost use mathlib.Core.Path.{_≡_};
 ghost use Rattle.rgb640.specs.Rgb640.{chip, looks, called};
-ghost use Rattle.answers.specs.Answers.{Says, badText};
+ghost use Rattle.answers.specs.Answers.{Says, okText, badText, newsText};
 ghost use Rattle.turns.specs.Turns.{sighted, Told};
 ghost use Rattle.turns_c.specs.Turns.{cTurn, CTook};
 
@@ -21,12 +21,23 @@ pub struct CTurn {
 
 // An answer told: the state that it hands back, and its refusal or the news.
 fn told(r: Answer, news: News) -> CTurn
-    ensures { λ t. ⌜ Told (t .text) (t .state) (r .refusal) news (r .state) ⌝ }
+    ensures { λ t. ⌜ Told (t .text) (t .state) (r .refusal) (newsText news) (r .state) ⌝ }
 {
     let after = r.state;
     CTurn {
         state: after,
         text: answers_told::told(r.refusal, news),
+    }
+}
+
+// The same of a call that tells nothing.
+fn done(r: Answer) -> CTurn
+    ensures { λ t. ⌜ Told (t .text) (t .state) (r .refusal) okText (r .state) ⌝ }
+{
+    let after = r.state;
+    CTurn {
+        state: after,
+        text: answers_told::done(r.refusal),
     }
 }
 
@@ -58,13 +69,13 @@ pub fn c_turn(s: State, call: Call, table: &mut [u16]) -> CTurn
     match call {
         Call::Write(port, byte) => {
             let r = rgb640_write::zk_c_write(s, port, byte, table);
-            told(r, News::Nothing)
+            done(r)
         }
         Call::Read(port) => {
             let r = rgb640_read::zk_c_read(s, port, table);
             told(r, News::Value(r.value))
         }
-        Call::Reset => told(rgb640_reset::zk_c_reset(s), News::Nothing),
+        Call::Reset => done(rgb640_reset::zk_c_reset(s)),
         Call::Look(place) => look(s, place, table),
         Call::OfA(_) => bad(s),
         Call::OfB(_) => bad(s),

@@ -13,10 +13,9 @@ use Rattle.vocabulary.specs.Refusal.{lentLength, outOfRange, noAccess, r
 use Rattle.vocabulary.specs.Outcome.{Outcome, accepting, refusing, answered}
 use Rattle.vocabulary.specs.declared.Looked.{Looked}
 use Rattle.vocabulary.specs.Look.{Block, Found, there, nowhere, found, lookRefusals, looked, looking}
-use Rattle.vocabulary.specs.Look.{unseen, lookAnswer}
+use Rattle.vocabulary.specs.Look.{unseen}
 use Rattle.vocabulary.proofs.Choice.{picks-first, picks-second}
 use Rattle.vocabulary.proofs.Range.{holds-meets, not-meets, both}
-use Rattle.vocabulary.proofs.Refusal.{standing-clear}
 use Rattle.vocabulary.proofs.Call.{tried-first, stops, goes-on}
 
 -- ---- What is found at a place
@@ -28,10 +27,6 @@ ends rows n = every (λ (b : Block). leb (b .from + length (b .numbers)) n) rows
 abbrev pub Beside : ℕ → List Block → Type 0
 Beside place [] = Unit
 Beside place (b ∷ bs) = (b .from ≤ place → place < b .from + length (b .numbers) → ⊥) × Beside place bs
-
--- one number's row
-pub beside-one : {place n : ℕ} → (place ≡ n → ⊥) → n ≤ place → place < n + 1 → ⊥
-beside-one h l u = h (omega arith)
 
 found-in : (b : Block) (bs : List Block) (place i : ℕ) → place ≡ b .from + i → i < length (b .numbers)
     → found (b ∷ bs) place ≡ there (getD (b .numbers) i 0)
@@ -61,7 +56,7 @@ found-behind : (more bs : List Block) (place : ℕ) → Beside place more → fo
 found-behind [] bs place h = refl
 found-behind (b ∷ more) bs place h = found-beside b (more ++ bs) place (h .0) ∙ found-behind more bs place (h .1)
 
-pub found-none : (bs : List Block) (place : ℕ) → Beside place bs → found bs place ≡ nowhere
+found-none : (bs : List Block) (place : ℕ) → Beside place bs → found bs place ≡ nowhere
 unfolding found
 found-none [] place h = refl
 found-none (b ∷ bs) place h = found-beside b bs place (h .0) ∙ found-none bs place (h .1)
@@ -93,28 +88,13 @@ module _ {C : Type 0} {short outside : Bool} (c : C) (whole : short ≡ false) (
       (sym (stops (lookRefusals short outside nowhere) 0 c _ (lentLength ∷ outOfRange ∷ []) noAccess 2 _ refl refl
       (whole, (inside, tt)) refl))
 
--- as the code knows it: refused by what every call tries first, ..
+-- as the code knows it: refused by what every call tries first
 pub look-stops : {C : Type 0} (short outside : Bool) (f : Found) (c : C) {n : ℕ} (a : Looked)
     → n ≡ refusalOf (standing short outside) → (n ≡ 0 → ⊥) → a ≡ unseen n
     → looking a c ≡ answered (refusalOf (lookRefusals short outside f)) c (looked f c)
 look-stops short outside f c a e h g =
     ap (λ (x : Looked). looking x c) g
     ∙ tried-first (lookRefusals short outside f) 0 c (looked f c) short outside _ refl (λ t. t) e h
-
--- .. and past that as the place has it
-pub look-goes : {C : Type 0} (short outside : Bool) (f : Found) (c : C) {n : ℕ} (a : Looked)
-    → n ≡ refusalOf (standing short outside) → n ≡ 0 → a ≡ lookAnswer f
-    → looking a c ≡ answered (refusalOf (lookRefusals short outside f)) c (looked f c)
-look-goes short outside (there v) c a e h g =
-    let (whole, inside) = standing-clear short outside (sym e ∙ h) in
-    ap (λ (x : Looked). looking x c) g ∙ sym (look-tells c whole inside v refl)
-look-goes short outside nowhere c a e h g =
-    let (whole, inside) = standing-clear short outside (sym e ∙ h) in
-    ap (λ (x : Looked). looking x c) g ∙ sym (look-misses c whole inside refl)
-
--- what the code answers, of what was found
-pub answer-as : {f g : Found} {a : Looked} → f ≡ g → a ≡ lookAnswer g → a ≡ lookAnswer f
-answer-as e h = h ∙ ap lookAnswer (sym e)
 
 -- an answer that is another's tells what the other tells
 pub looked-as : {C : Type 0} {c : C} {o : Outcome C} (a : Looked) {b : Looked} → a ≡ b → o ≡ looking b c → looking a c ≡ o

@@ -55,10 +55,9 @@ looked f c = accepting (numberOf f) 0 c
 abbrev pub looking : {C : Type 0} → Looked → C → Outcome C
 looking a c = record { refusal = a .refusal; value = a .value; count = 0; line = 0; left = c }
 
--- an answer that refuses; and the answer where neither 1 nor 9 is due
+-- the answer with a number, and one that refuses
+abbrev pub seen : ℕ → Looked
+seen n = record { refusal = 0; value = n }
+
 abbrev pub unseen : ℕ → Looked
 unseen n = record { refusal = n; value = 0 }
-
-abbrev pub lookAnswer : Found → Looked
-lookAnswer (there n) = record { refusal = 0; value = n }
-lookAnswer nowhere = unseen 3

@@ -8,7 +8,6 @@ line-spec =
     tie.close
     (tie.spec (λ c. search needs) (λ c. search needs) (λ c. search needs) (λ c. search needs) (λ c. search needs)
     (λ c. search needs) (λ c. search needs) (λ c. search needs) (λ c. search needs) (λ c. search needs)
-    (λ c. search needs) (λ c. search needs) (λ c. search needs) (λ c. search needs) (λ c. search needs)
-    (λ c. search needs) (λ c. search (says-news, needs)) (λ c. search (says-news, needs))
+    (λ c. search needs) (λ c. search needs) (λ c. search needs) (λ c. search needs) (λ c. search (says-news, needs))
     (λ c. search (says-news, needs)) (λ c. search (says-news, needs)) (λ c. search (says-news, needs))
     (λ c. search (says-news, needs)) (λ c. search (says-news, needs)))
