@@ -26,9 +26,9 @@ module _ (c : Chip) (g : InRange c) where
 
   -- the registers, and how many wait
   pub look-state :
-      Tells 0x0 (c .port .address) × Tells 0x1 (c .port .counter) × Tells 0x2 (c .port .red) × Tells 0x3 (c .port .green)
-      × Tells 0x4 (c .control .command) × Tells 0x5 (c .control .readmode) × Tells 0x6 (c .ident .revision)
-      × Tells 0x7 (c .ident .board) × Tells 0x8 (length (c .waiting))
+      Tells 0x0 (c .port .address) × Tells 0x1 (c .port .counter) × Tells 0x2 (c .port .red)
+      × Tells 0x3 (c .port .green) × Tells 0x4 (c .control .command) × Tells 0x5 (c .control .readmode)
+      × Tells 0x6 (c .ident .revision) × Tells 0x7 (c .ident .board) × Tells 0x8 (length (c .waiting))
   unfolding found pick meets
   look-state = search look-found
 

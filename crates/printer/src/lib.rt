@@ -22,8 +22,8 @@ fn room(out: &[u8; 65536], waiting: usize) -> usize
     0
 }
 
-// The first `len` of a text's bytes behind those that wait: how many wait then. All 16 are put, in one piece; what comes
-// next is put over those that don't count.
+// The first `len` of a text's bytes behind those that wait: how many wait then. All 16 are put, in one piece; what
+// comes next is put over those that don't count.
 pub fn say_text(bytes: [u8; 16], len: usize, out: &mut [u8; 65536], waiting: usize) -> usize {
     let at = room(out, waiting);
     let mut i: usize = 0;

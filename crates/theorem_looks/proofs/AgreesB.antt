@@ -71,6 +71,7 @@ module _ (c : Chip) (g : InRange c) where
         command = accepts-as command (read-value 3 refl refl);
         revision = accepts-as revision (omega (arith, ident, g .revision));
         board = accepts-as board (omega (arith, ident, g .revision));
-        map = λ a. accepts-as (look-map c g _ (3 * c .port .address + c .port .counter) refl (omega (arith, g .address, g .counter)))
+        map = λ a. accepts-as
+            (look-map c g _ (3 * c .port .address + c .port .counter) refl (omega (arith, g .address, g .counter)))
             (map-value a);
       }

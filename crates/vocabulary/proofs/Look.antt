@@ -97,5 +97,6 @@ look-stops short outside f c a e h g =
     ∙ tried-first (lookRefusals short outside f) 0 c (looked f c) short outside _ refl (λ t. t) e h
 
 -- an answer that is another's tells what the other tells
-pub looked-as : {C : Type 0} {c : C} {o : Outcome C} (a : Looked) {b : Looked} → a ≡ b → o ≡ looking b c → looking a c ≡ o
+pub looked-as : {C : Type 0} {c : C} {o : Outcome C} (a : Looked) {b : Looked} → a ≡ b → o ≡ looking b c
+    → looking a c ≡ o
 looked-as {c = c} a e f = ap (λ (x : Looked). looking x c) e ∙ sym f
