@@ -4,8 +4,8 @@
 // specs/Hd153108.antt says it all, and each call equals a definition there. The caller owns the state and both tables:
 // a state goes in by value and comes back, and the tables, 768 and 12 bytes, are lent for the call.
 // The calls are in hd153108_write, hd153108_read, hd153108_reset, hd153108_tick (blink step, tick), hd153108_pixel,
-// hd153108_pixel_refusal and hd153108_pixel_c, and what they share is in hd153108_port and hd153108_range. Not
-// modelled: analogue output, clocks, pipeline delay, bus timing, blanking.
+// hd153108_pixel_refusal, hd153108_pixel_c and hd153108_look, and what they share is in hd153108_port and
+// hd153108_range. Not modelled: analogue output, clocks, pipeline delay, bus timing, blanking.
 
 // The blink clock: the Blink Timing Register, and the ticks passed in its period.
 #[repr(C)]

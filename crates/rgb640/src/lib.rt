@@ -2,12 +2,12 @@
 // its definitions and their laws.
 //
 // Source document 001, sections 9.1, 9.3, 9.4.1, 9.6 and 10.15 with Tables 22 to 26, 29 and 30, and document 01, "Chip
-// C", decide; specs/Rgb640.antt says it. The calls are in rgb640_write, rgb640_read and rgb640_reset, what both
-// accesses use is in rgb640_port, _range, _next and _fetch, and theorem_read_back shows that what is written reads
+// C", decide; specs/Rgb640.antt says it. The calls are in rgb640_write, rgb640_read, rgb640_reset and rgb640_look, what
+// both accesses use is in rgb640_port, _range, _next and _fetch, and theorem_read_back shows that what is written reads
 // back. The laws: which index lies in which space (proofs/Index.antt), what a transfer of an order does (Order), a
 // chip in range stays in range (InRange), which refusal an access meets (Access), what each write does (Effects), what
-// the calls keep (Keeps). Not modelled: ports 0 to 3 and 7, the window tables, cursor, YUV and the sequences of four
-// and six transfers, the other registers, analogue output, clocks and bus timing.
+// the calls keep (Keeps), what each place of a look tells (Look). Not modelled: ports 0 to 3 and 7, the window tables,
+// cursor, YUV and the sequences of four and six transfers, the other registers, analogue output, clocks and bus timing.
 
 // A colour of ten bits a component.
 #[repr(C)]

@@ -1,6 +1,6 @@
 -- THE THEOREM: looks can't be noticed. One law of runs, of calls that leave their chip, serves the three. Assumes
 -- nothing.
-use mathlib.Core.Path.{_≡_, ap, _∙_}
+use mathlib.Core.Path.{_≡_, refl, ap, _∙_}
 use mathlib.Core.Bool.{true}
 use Rattle.vocabulary.specs.Outcome.{Outcome}
 use Rattle.vocabulary.proofs.Run.{unnoticed}
@@ -21,6 +21,7 @@ bytes-stay step keeps k h e =
 
 pub looks-unnoticed : LooksUnnoticed
 looks-unnoticed = record {
+  named = λ place. (refl, refl, refl);
   a = A.looks-unnoticed;
   b = B.looks-unnoticed;
   c = C.looks-unnoticed;

@@ -4,6 +4,7 @@
 -- here it is of the three. Below it stand two uses, on chip A.
 use Prim.Native.Nat.{ℕ, zero, suc, _<_}
 use mathlib.Core.Path.{_≡_}
+use mathlib.Core.Bool.{true}
 use mathlib.Core.List.{List, [], _∷_, _++_, map}
 use Rattle.vocabulary.specs.Outcome.{Outcome, accepting}
 use Rattle.vocabulary.specs.Run.{besides, after, Unnoticed}
@@ -21,6 +22,9 @@ use Rattle.theorem_load.specs.Load.{Leaves}
 
 -- on any chip whatever; of chip B as a caller keeps it too, for any code that keeps its promise: the same bytes
 pub record LooksUnnoticed : Type 0 where
+  -- a look is what each chip calls so
+  pub named : (place : ℕ)
+      → (A.isLook (A.looks place) ≡ true) × (B.isLook (B.looks place) ≡ true) × (C.isLook (C.looks place) ≡ true)
   pub a : Unnoticed A.called A.isLook
   pub b : Unnoticed B.called B.isLook
   pub c : Unnoticed C.called C.isLook
