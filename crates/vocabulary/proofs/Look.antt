@@ -1,5 +1,4 @@
--- Laws of looks, for any chip: what is found at a place, which way a look goes, and that it leaves its chip. Assumes
--- nothing.
+-- Laws of looks, for any chip: what is found at a place, and which way a look goes. Assumes nothing.
 use Prim.Native.Nat.{ℕ, _+_, _-_, _<_, _≤_}
 use mathlib.Core.Path.{_≡_, refl, sym, ap, _∙_}
 use mathlib.Core.Bool.{Bool, true, false}
@@ -12,8 +11,7 @@ use Rattle.vocabulary.specs.Every.{every}
 use Rattle.vocabulary.specs.Refusal.{lentLength, outOfRange, noAccess, refusalOf, standing}
 use Rattle.vocabulary.specs.Outcome.{Outcome, accepting, refusing, answered}
 use Rattle.vocabulary.specs.declared.Looked.{Looked}
-use Rattle.vocabulary.specs.Look.{Block, Found, there, nowhere, found, lookRefusals, looked, looking}
-use Rattle.vocabulary.specs.Look.{unseen}
+use Rattle.vocabulary.specs.Look.{Block, Found, there, nowhere, found, lookRefusals, looked, looking, unseen}
 use Rattle.vocabulary.proofs.Choice.{picks-first, picks-second}
 use Rattle.vocabulary.proofs.Range.{holds-meets, not-meets, both}
 use Rattle.vocabulary.proofs.Call.{tried-first, stops, goes-on}
