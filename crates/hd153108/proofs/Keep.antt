@@ -1,7 +1,7 @@
 -- What the calls keep: a chip in range stays in range, whatever is called; pixels leave their chip; a read keeps both
 -- tables, and one of a register the chip. Register by register, and a data access by its component. Assumes nothing.
 use Prim.Native.Nat.{ℕ, _+_, _-_, _<_}
-use mathlib.Core.Path.{_≡_, refl, sym, ap, _∙_}
+use mathlib.Core.Path.{_≡_, refl, sym, ap, subst, _∙_}
 use mathlib.Core.Bool.{Bool, true, false}
 use mathlib.Core.List.{List, [], _∷_}
 use native.Mathlib.Nat.{mod-lt}
@@ -116,6 +116,10 @@ given-holds : (given : List Bound) (select : ℕ) (c : Chip) → None (due (acce
     → Holds given
 given-holds given select c (short, (outside, rest)) = holds-parts given (ranges c) (passes-holds _ outside) .0
 
+-- an accepted look leaves its chip
+look-leaves : (place : ℕ) (c : Chip) → does (looks place) c .left ≡ c
+look-leaves place c = refl
+
 does-keeps-range : (k : Call) (c : Chip) → InRange c → None (due (refusals k c)) order → InRange (does k c .left)
 does-keeps-range (writes select byte) c g h =
     let (b, _) = given-holds (below byte 256 ∷ []) select c h in written-in-range (registerAt select) byte c b g
@@ -123,7 +127,7 @@ does-keeps-range (reads select) c g h = answers-in-range (registerAt select) c g
 does-keeps-range resets c g h = reset-in-range c (lengths-hold c g)
 does-keeps-range ticks c g h = let below = ticked-below (c .state .clock) in search
 does-keeps-range (pixels enable number byte) c g h = g
-does-keeps-range (looks place) c g h = g
+does-keeps-range (looks place) c g h = subst InRange (sym (look-leaves place c)) g
 
 pub called-keeps-range : Keeps called InRange
 called-keeps-range k c g = called-holds refusals does k c InRange g (does-keeps-range k c g)
@@ -203,7 +207,7 @@ look-stays (reads select) c e = clash (sym e)
 look-stays resets c e = clash (sym e)
 look-stays ticks c e = clash (sym e)
 look-stays (pixels enable number byte) c e = clash (sym e)
-look-stays (looks place) c e = called-holds refusals does _ c (λ (d : Chip). d ≡ c) refl (λ h. refl)
+look-stays (looks place) c e = called-holds refusals does _ c (λ (d : Chip). d ≡ c) refl (λ h. look-leaves place c)
 
 pub looks-unnoticed : Unnoticed called isLook
 looks-unnoticed = unnoticed called isLook look-stays

@@ -95,6 +95,10 @@ pub fresh-in-range : (c : Chip) → c .lent .places ≡ 64 → length (c .map) �
 unfolding every
 fresh-in-range c l m kept = search arith
 
+-- an accepted look leaves its chip
+look-leaves : (place : ℕ) (c : Chip) → does (looks place) c .left ≡ c
+look-leaves place c = refl
+
 -- THE CALLS keep the ranges
 pub called-keeps-range : Keeps called InRange
 called-keeps-range (writes select byte) c h =
@@ -109,7 +113,8 @@ called-keeps-range (signals s) c h = called-holds refusals does (signals s) c In
 called-keeps-range resets c h =
     called-holds refusals does resets c InRange h
     (λ t. fresh-in-range c (h .places) (h .size) (passes-holds (identRanges (c .ident)) (t .1 .0)))
-called-keeps-range (looks place) c h = called-holds refusals does (looks place) c InRange h (λ t. h)
+called-keeps-range (looks place) c h =
+    called-holds refusals does (looks place) c InRange h (λ t. subst InRange (sym (look-leaves place c)) h)
 
 -- ---- the calls that no other call can tell from not being made
 abbrev pub isPixel : Call → Bool
@@ -156,7 +161,8 @@ look-stays (blanks slots) c e = clash (sym e)
 look-stays (pixels mode word) c e = clash (sym e)
 look-stays (signals s) c e = clash (sym e)
 look-stays resets c e = clash (sym e)
-look-stays (looks place) c e = called-holds refusals does (looks place) c (λ (d : Chip). d ≡ c) refl (λ t. refl)
+look-stays (looks place) c e =
+    called-holds refusals does (looks place) c (λ (d : Chip). d ≡ c) refl (λ t. look-leaves place c)
 
 pub pixels-unnoticed : Unnoticed called isPixel
 pixels-unnoticed = unnoticed called isPixel pixel-stays

@@ -1,6 +1,6 @@
 -- A chip in range passes the table of its lengths and ranges, and every call leaves it in range. Assumes nothing.
 use Prim.Native.Nat.{ℕ, zero, suc, _<_}
-use mathlib.Core.Path.{_≡_}
+use mathlib.Core.Path.{_≡_, refl, sym, subst}
 use mathlib.Core.List.{List, _∷_}
 use native.Mathlib.Omega.{arith}
 use lib.ListN.{length}
@@ -119,6 +119,10 @@ module _ (c : Chip) (r : InRange c) where
   told-range indexData = data-read-range _ c r
   told-range notServed = r
 
+-- an accepted look leaves its chip
+pub look-leaves : (place : ℕ) (c : Chip) → does (looks place) c .left ≡ c
+look-leaves place c = refl
+
 pub called-keeps-range : Keeps called InRange
 called-keeps-range (writes port b) c r =
     called-holds refusals does (writes port b) c InRange r
@@ -126,4 +130,5 @@ called-keeps-range (writes port b) c r =
 called-keeps-range (reads port) c r =
     called-holds refusals does (reads port) c InRange r (λ none. told-range c r (registerAt port))
 called-keeps-range resets c r = called-holds refusals does resets c InRange r (λ none. omega arith)
-called-keeps-range (looks place) c r = called-holds refusals does (looks place) c InRange r (λ none. r)
+called-keeps-range (looks place) c r =
+    called-holds refusals does (looks place) c InRange r (λ none. subst InRange (sym (look-leaves place c)) r)

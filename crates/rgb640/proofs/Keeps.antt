@@ -14,6 +14,7 @@ use Rattle.rgb640.specs.Rgb640.{paletteWrite, paletteRead, nowhere, spac
 use Rattle.rgb640.specs.Rgb640.{indexData, notServed, registerAt, served, dataWritten, wrote, told, answers, Call}
 use Rattle.rgb640.specs.Rgb640.{writes, reads, resets, looks, isLook, refusals, does, called}
 use Rattle.rgb640.proofs.Index.{space-holds}
+use Rattle.rgb640.proofs.InRange.{look-leaves}
 
 -- ---- What is done where nothing is refused gives no refusal itself
 pub does-accepts : (k : Call) (c : Chip) → does k c .refusal ≡ 0
@@ -57,7 +58,8 @@ look-stays : (k : Call) (c : Chip) → isLook k ≡ true → called k c .left �
 look-stays (writes port b) c e = clash (sym e)
 look-stays (reads port) c e = clash (sym e)
 look-stays resets c e = clash (sym e)
-look-stays (looks place) c e = called-holds refusals does _ c (λ (d : Chip). d ≡ c) refl (λ none. refl)
+look-stays (looks place) c e =
+    called-holds refusals does _ c (λ (d : Chip). d ≡ c) refl (λ none. look-leaves place c)
 
 pub looks-unnoticed : Unnoticed called isLook
 looks-unnoticed = unnoticed called isLook look-stays
