@@ -5,4 +5,5 @@ pub mod Lent
 pub mod Data
 pub mod Masks
 pub mod Blink
+pub mod Captions
 pub mod Look

@@ -31,6 +31,20 @@ line-is-bit zero zero x true h = omega arith
 line-is-bit zero (suc b) x true h = h
 line-is-bit zero b x false h = h
 
+-- a line that is 0 reads 0, whatever its masks
+pub line-zero : (o : Bool) (r b : ℕ) → lineReads o r b 0 ≡ 0
+unfolding lineReads
+line-zero o (suc r) b = refl
+line-zero true zero zero = refl
+line-zero true zero (suc b) = refl
+line-zero false zero b = refl
+
+-- in the off time one whose blink mask bit is 0 reads 0, whatever it is
+pub line-off : (r x : ℕ) → lineReads true r 0 x ≡ 0
+unfolding lineReads
+line-off zero x = refl
+line-off (suc r) x = refl
+
 -- ---- w lines
 
 -- the last line, and the others
@@ -81,6 +95,12 @@ masked-fits zero o r b x = omega arith
 masked-fits (suc w) o r b x =
     omega (arith, line-is-bit (r % 2) (b % 2) (x % 2) o (omega arith), masked-fits w o (r / 2) (b / 2) (x / 2))
 
+-- no line that is 1 makes 0
+pub masked-zero : (w : ℕ) (o : Bool) (r b : ℕ) → masked w o r b 0 ≡ 0
+unfolding masked
+masked-zero zero o r b = refl
+masked-zero (suc w) o r b = rw (masked-zero w o (r / 2) (b / 2), line-zero o (r % 2) (b % 2))
+
 -- ---- as document 01 says it
 module _ (w k : ℕ) (r b x : ℕ) (h : k < w) where
   -- a line whose read mask bit is 1 reads 0
@@ -90,12 +110,7 @@ module _ (w k : ℕ) (r b x : ℕ) (h : k < w) where
 
   -- in the off time a line whose blink mask bit is 0 reads 0
   pub blinking-line : line b k ≡ 0 → line (masked w true r b x) k ≡ 0
-  unfolding lineReads
-  blinking-line e = masked-by-line w k true r b x h ∙ rw e (either (line r k))
-    where
-      either : (n : ℕ) → lineReads true n 0 (line x k) ≡ 0
-      either zero = refl
-      either (suc n) = refl
+  blinking-line e = masked-by-line w k true r b x h ∙ rw e (line-off (line r k) (line x k))
 
   -- every other line reads as it is
   pub line-on : line r k ≡ 0 → line (masked w false r b x) k ≡ line x k

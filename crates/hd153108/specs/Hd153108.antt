@@ -244,15 +244,18 @@ selected (suc enable) zero number = overlay
 selected (suc enable) (suc b6) zero = colour
 selected (suc enable) (suc b6) (suc number) = overlay
 
--- the table of a pixel: the overlay number is tested as given
-abbrev pub shownTable : ℕ → ℕ → State → Table
-shownTable enable number s = selected enable (line (s .control) 6) number
+-- the overlay number that selects: the given number's two lines, after read mask and blink (OLD0-OLD1, Table 1.2)
+abbrev pub overlayNumber : ℕ → State → ℕ
+overlayNumber number s = masked 2 (isOff (s .clock)) (s .control) (s .control / 4) number
 
--- its entry: the masked byte's eight lines, or the masked overlay number's two (OLD0-OLD1, Table 1.2)
+-- the table of a pixel: that number is tested, not the number as given (request P3, over document 01)
+abbrev pub shownTable : ℕ → ℕ → State → Table
+shownTable enable number s = selected enable (line (s .control) 6) (overlayNumber number s)
+
+-- its entry: the masked byte's eight lines, or that number
 unfoldable pub shownEntry : Table → ℕ → ℕ → State → ℕ
 shownEntry colour number byte s = masked 8 (isOff (s .clock)) (s .readmask) (s .blinkmask) byte
-shownEntry overlay number byte s =
-    masked 2 (isOff (s .clock)) (s .control) (s .control / 4) number
+shownEntry overlay number byte s = overlayNumber number s
 
 -- an entry's three bytes
 abbrev pub colourAt : ℕ → List ℕ → List ℕ

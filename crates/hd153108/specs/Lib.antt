@@ -1,1 +1,2 @@
 pub mod Hd153108
+pub mod Captions

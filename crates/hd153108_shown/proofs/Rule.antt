@@ -7,14 +7,15 @@ use mathlib.Core.Bool.{Bool, true, false}
 use native.Mathlib.Omega.{arith}
 use lib.Dec.{eqb}
 use borrow.Author.Tests.{ne-eqb}
+use Rattle.vocabulary.specs.Line.{line}
 use Rattle.vocabulary.specs.Range.{Holds}
 use Rattle.vocabulary.specs.Refusal.{lentLength, outOfRange}
 use Rattle.vocabulary.specs.Outcome.{Outcome, accepting}
 use Rattle.vocabulary.proofs.Range.{clash, holds-passes, not-fails, holds-parts, fails-right}
 use Rattle.vocabulary.proofs.Call.{tried-first, stops, goes-on}
 use Rattle.hd153108.specs.declared.State.{State}
-use Rattle.hd153108.specs.Hd153108.{Chip, chip, Table, colour, overlay, tableOf, isOff, masked, selected, shownTable}
-use Rattle.hd153108.specs.Hd153108.{shownEntry, colourAt, shown, ranges, short, outside, InRange, pixelRanges}
+use Rattle.hd153108.specs.Hd153108.{Chip, chip, Table, colour, overlay, tableOf, isOff, masked, selected}
+use Rattle.hd153108.specs.Hd153108.{overlayNumber, shownTable, shownEntry, colourAt, shown, ranges, short, outside, InRange, pixelRanges}
 use Rattle.hd153108.specs.Hd153108.{pixelRefusals, pixelPart, pixels, called}
 use Rattle.hd153108.proofs.InRange.{not-short, ranges-hold}
 use Rattle.hd153108.proofs.Access.{tried, known}
@@ -76,25 +77,31 @@ module _ (enable number byte : ℕ) (s : State) (cs os : List ℕ) {n : ℕ} (e 
     pub picked-number : 4 ≤ number → Picked enable number byte (chip s cs os) (Refused 9)
     picked-number h = outside-refused enable number byte _ fine (λ g. omega arith)
 
-    module _ (i : ℕ) {b off : Bool} (low : enable < 2) (few : number < 4)
-        (test : b ≡ isColour (shownTable enable number s)) (blink : off ≡ isOff (s .clock)) where
-      pub picked-colour : b ≡ true → i ≡ masked 8 off (s .readmask) (s .blinkmask) byte
+    module _ {m : ℕ} {b off : Bool} (low : enable < 2) (few : number < 4) (blink : off ≡ isOff (s .clock))
+        (selects : m ≡ masked 2 off (s .control) (s .control / 4) number)
+        (test : b ≡ isColour (selected enable (line (s .control) 6) m)) where
+      -- the number that is tested is the overlay number after its masks
+      tested : m ≡ overlayNumber number s
+      tested = selects ∙ rw blink
+
+      pub picked-colour : (i : ℕ) → b ≡ true → i ≡ masked 8 off (s .readmask) (s .blinkmask) byte
           → Picked enable number byte (chip s cs os) (Colour i)
       unfolding shownEntry
-      picked-colour h p =
+      picked-colour i h p =
           let entry : i ≡ shownEntry colour number byte s = p ∙ rw blink in
+          let table = is-colour (shownTable enable number s) (rw tested at (sym test ∙ h)) in
           record {
-            means = rw entry (shows enable number byte _ fine low few colour (is-colour _ (sym test ∙ h)));
+            means = rw entry (shows enable number byte _ fine low few colour table);
             inside = omega (arith, fine .colours, masked-fits 8 (isOff (s .clock)) (s .readmask) (s .blinkmask) byte);
           }
 
-      pub picked-overlay : b ≡ false → i ≡ masked 2 off (s .control) (s .control / 4) number
-          → Picked enable number byte (chip s cs os) (Overlay i)
+      pub picked-overlay : b ≡ false → Picked enable number byte (chip s cs os) (Overlay m)
       unfolding shownEntry
-      picked-overlay h p =
-          let entry : i ≡ shownEntry overlay number byte s = p ∙ rw blink in
+      picked-overlay h =
+          let entry : m ≡ shownEntry overlay number byte s = tested in
+          let table = is-overlay (shownTable enable number s) (rw tested at (sym test ∙ h)) in
           record {
-            means = rw entry (shows enable number byte _ fine low few overlay (is-overlay _ (sym test ∙ h)));
+            means = rw entry (shows enable number byte _ fine low few overlay table);
             inside =
                 omega (arith, fine .overlays, masked-fits 2 (isOff (s .clock)) (s .control) (s .control / 4) number);
           }

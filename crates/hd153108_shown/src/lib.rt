@@ -46,8 +46,9 @@ pub fn picked(s: State, colours: &[u8], overlays: &[u8], enable: u8, number: u8,
     }
     let control = s.control;
     let off = hd153108_range::blink_off(s.clock);
-    if shows_colour(enable, control / 64 % 2, number) {
+    let selects = masked_number(off, control, number);
+    if shows_colour(enable, control / 64 % 2, selects) {
         return Pick::Colour(masked_byte(off, s.readmask, s.blinkmask, byte) as usize);
     }
-    Pick::Overlay(masked_number(off, control, number) as usize)
+    Pick::Overlay(selects as usize)
 }
