@@ -92,12 +92,11 @@ module _ (c : Chip) (number : ℕ) where
       → shownTable 1 number (c .state) ≡ colour)
       × ((k : ℕ) → k < 2 → captionLine k number (c .state) ≡ 1 → shownTable 1 number (c .state) ≡ overlay)
       × (line (c .state .control) 6 ≡ 0 → shownTable 1 number (c .state) ≡ overlay)
-  caption-table =
-      (
-        λ b h. selected-hidden _ _ b (caption-hidden h),
-        λ k h e. selected-seen _ _ (caption-seen k h e),
-        λ b. selected-clear _ _ b,
-      )
+  caption-table = (
+    λ b h. selected-hidden _ _ b (caption-hidden h),
+    λ k h e. selected-seen _ _ (caption-seen k h e),
+    λ b. selected-clear _ _ b,
+  )
 
 -- ---- What shows
 

@@ -14,8 +14,8 @@ use Rattle.vocabulary.specs.Outcome.{Outcome, accepting}
 use Rattle.vocabulary.proofs.Range.{clash, holds-passes, not-fails, holds-parts, fails-right}
 use Rattle.vocabulary.proofs.Call.{tried-first, stops, goes-on}
 use Rattle.hd153108.specs.declared.State.{State}
-use Rattle.hd153108.specs.Hd153108.{Chip, chip, Table, colour, overlay, tableOf, isOff, masked, selected}
-use Rattle.hd153108.specs.Hd153108.{overlayNumber, shownTable, shownEntry, colourAt, shown, ranges, short, outside, InRange, pixelRanges}
+use Rattle.hd153108.specs.Hd153108.{Chip, chip, Table, colour, overlay, tableOf, isOff, masked, selected, shownTable}
+use Rattle.hd153108.specs.Hd153108.{shownEntry, colourAt, shown, ranges, short, outside, InRange, pixelRanges}
 use Rattle.hd153108.specs.Hd153108.{pixelRefusals, pixelPart, pixels, called}
 use Rattle.hd153108.proofs.InRange.{not-short, ranges-hold}
 use Rattle.hd153108.proofs.Access.{tried, known}
@@ -77,31 +77,29 @@ module _ (enable number byte : ℕ) (s : State) (cs os : List ℕ) {n : ℕ} (e 
     pub picked-number : 4 ≤ number → Picked enable number byte (chip s cs os) (Refused 9)
     picked-number h = outside-refused enable number byte _ fine (λ g. omega arith)
 
-    module _ {m : ℕ} {b off : Bool} (low : enable < 2) (few : number < 4) (blink : off ≡ isOff (s .clock))
-        (selects : m ≡ masked 2 off (s .control) (s .control / 4) number)
-        (test : b ≡ isColour (selected enable (line (s .control) 6) m)) where
-      -- the number that is tested is the overlay number after its masks
-      tested : m ≡ overlayNumber number s
-      tested = selects ∙ rw blink
+    module _ (i : ℕ) {b off : Bool} (low : enable < 2) (few : number < 4)
+        (test : b ≡ isColour (selected enable (line (s .control) 6) (masked 2 off (s .control) (s .control / 4) number)))
+        (blink : off ≡ isOff (s .clock)) where
+      table : b ≡ isColour (shownTable enable number s)
+      table = test ∙ rw blink
 
-      pub picked-colour : (i : ℕ) → b ≡ true → i ≡ masked 8 off (s .readmask) (s .blinkmask) byte
+      pub picked-colour : b ≡ true → i ≡ masked 8 off (s .readmask) (s .blinkmask) byte
           → Picked enable number byte (chip s cs os) (Colour i)
       unfolding shownEntry
-      picked-colour i h p =
+      picked-colour h p =
           let entry : i ≡ shownEntry colour number byte s = p ∙ rw blink in
-          let table = is-colour (shownTable enable number s) (rw tested at (sym test ∙ h)) in
           record {
-            means = rw entry (shows enable number byte _ fine low few colour table);
+            means = rw entry (shows enable number byte _ fine low few colour (is-colour _ (sym table ∙ h)));
             inside = omega (arith, fine .colours, masked-fits 8 (isOff (s .clock)) (s .readmask) (s .blinkmask) byte);
           }
 
-      pub picked-overlay : b ≡ false → Picked enable number byte (chip s cs os) (Overlay m)
+      pub picked-overlay : b ≡ false → i ≡ masked 2 off (s .control) (s .control / 4) number
+          → Picked enable number byte (chip s cs os) (Overlay i)
       unfolding shownEntry
-      picked-overlay h =
-          let entry : m ≡ shownEntry overlay number byte s = tested in
-          let table = is-overlay (shownTable enable number s) (rw tested at (sym test ∙ h)) in
+      picked-overlay h p =
+          let entry : i ≡ shownEntry overlay number byte s = p ∙ rw blink in
           record {
-            means = rw entry (shows enable number byte _ fine low few overlay table);
+            means = rw entry (shows enable number byte _ fine low few overlay (is-overlay _ (sym table ∙ h)));
             inside =
                 omega (arith, fine .overlays, masked-fits 2 (isOff (s .clock)) (s .control) (s .control / 4) number);
           }

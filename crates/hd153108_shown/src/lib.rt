@@ -7,7 +7,9 @@ use hd153108::State;
 use hd153108_masks::masked_byte;
 use hd153108_masks::masked_number;
 ghost use mathlib.Core.Path.{_≡_};
-ghost use Rattle.hd153108.specs.Hd153108.{chip, selected};
+ghost use Prim.Native.Nat.{_/_, _<_};
+ghost use Rattle.vocabulary.specs.Line.{line};
+ghost use Rattle.hd153108.specs.Hd153108.{chip, masked, selected};
 ghost use Rattle.hd153108_shown.specs.Picked.{isColour, Picked};
 
 // What a pixel shows: an entry of one of the tables; or its refusal.
@@ -17,17 +19,20 @@ pub enum Pick {
     Refused(u8),
 }
 
-// Whether the colour table shows.
-fn shows_colour(enable: u8, b6: u8, number: u8) -> bool
-    ensures { λ r. ⌜ r ≡ isColour (selected enable b6 number) ⌝ }
+// Whether the colour table shows: bit 6 of the overlay control tests the number after read mask and blink.
+fn shows_colour(off: bool, enable: u8, control: u8, number: u8) -> bool
+    requires { ⌜ number < 4 ⌝ }
+    ensures { λ r. ⌜ r
+        ≡ isColour (selected enable (line control 6) (masked 2 off control (control / 4) number)) ⌝ }
 {
     if enable == 0 {
         return true;
     }
-    if b6 == 0 {
+    if control / 64 % 2 == 0 {
         return false;
     }
-    number == 0
+    let selects = masked_number(off, control, number);
+    selects == 0
 }
 
 // The one decision: refusals 1 and 9, then the table and its entry.
@@ -46,9 +51,8 @@ pub fn picked(s: State, colours: &[u8], overlays: &[u8], enable: u8, number: u8,
     }
     let control = s.control;
     let off = hd153108_range::blink_off(s.clock);
-    let selects = masked_number(off, control, number);
-    if shows_colour(enable, control / 64 % 2, selects) {
+    if shows_colour(off, enable, control, number) {
         return Pick::Colour(masked_byte(off, s.readmask, s.blinkmask, byte) as usize);
     }
-    Pick::Overlay(selects as usize)
+    Pick::Overlay(masked_number(off, control, number) as usize)
 }

@@ -3,24 +3,22 @@ use borrow.Author.Needs.{needs}
 use Rattle.hd153108_shown.proofs.picked.Statement.{statement}
 use Rattle.hd153108_shown.proofs.picked.Tie as tie
 
--- an entry of the colours, and one of the overlays: d tests the number, o has read the blink, e has tried the ranges
+-- an entry of the colours, and one of the overlays: d tests the table, e has tried the ranges
 returns-4 : tie.Need-returns-4
 returns-4 c =
     let d = c .before .before in
-    let o = d .before .before in
-    let e = o .before in
-    picked-colour _ _ _ _ _ _ (e .before .before .before .standing .ensures) (e .before .before .if1 .left)
-    (e .before .if2 .left) (e .if3 .left) (o .blink-off .ensures) (d .before .masked-number .ensures)
-    (d .shows-colour .ensures) _ (c .before .if4 .taken) (c .masked-byte .ensures)
+    let e = d .before .before in
+    picked-colour _ _ _ _ _ _ (e .before .before .before .standing .ensures) (e .before .before .if1 .left) _
+    (e .before .if2 .left) (e .if3 .left) (d .shows-colour .ensures) (d .before .blink-off .ensures)
+    (c .before .if4 .taken) (c .masked-byte .ensures)
 
 returns-5 : tie.Need-returns-5
 returns-5 c =
-    let d = c .before in
-    let o = d .before .before in
-    let e = o .before in
-    picked-overlay _ _ _ _ _ _ (e .before .before .before .standing .ensures) (e .before .before .if1 .left)
-    (e .before .if2 .left) (e .if3 .left) (o .blink-off .ensures) (d .before .masked-number .ensures)
-    (d .shows-colour .ensures) (c .if4 .left)
+    let d = c .before .before in
+    let e = d .before .before in
+    picked-overlay _ _ _ _ _ _ (e .before .before .before .standing .ensures) (e .before .before .if1 .left) _
+    (e .before .if2 .left) (e .if3 .left) (d .shows-colour .ensures) (d .before .blink-off .ensures)
+    (c .before .if4 .left) (c .masked-number .ensures)
 
 pub picked-spec : {M : Type 1} → statement M
 picked-spec =
@@ -30,5 +28,5 @@ picked-spec =
     picked-enable _ _ _ _ _ _ (c .before .before .standing .ensures) (c .before .if1 .left) (c .if2 .taken))
     (λ c.
     picked-number _ _ _ _ _ _ (c .before .before .before .standing .ensures) (c .before .before .if1 .left)
-    (c .if3 .taken)) (λ c κs. search needs) (λ c κs. search needs) (λ c κs. search needs) (λ c κs. search needs)
-    (λ c. search needs) returns-4 (λ c. search needs) returns-5)
+    (c .if3 .taken)) (λ c κs. search needs) (λ c κs. search needs) (λ c κs. search needs) (λ c. search needs)
+    returns-4 (λ c κs. search needs) (λ c. search needs) returns-5)

@@ -1,4 +1,5 @@
 use Rattle.hd153108_shown.proofs.Rule.{without-enable, without-b6, with-b6}
+use borrow.Author.Needs.{needs}
 use Rattle.hd153108_shown.proofs.shows_colour.Statement.{statement}
 use Rattle.hd153108_shown.proofs.shows_colour.Tie as tie
 
@@ -6,5 +7,5 @@ pub shows-colour-spec : {M : Type 1} → statement M
 shows-colour-spec =
     tie.close
     (tie.spec (λ c. without-enable _ _ _ (c .if1 .taken))
-    (λ c. without-b6 _ _ _ (c .before .if1 .left) (c .if2 .taken))
-    (λ c. with-b6 _ _ _ (c .before .if1 .left) (c .if2 .left)))
+    (λ c. without-b6 _ _ _ (c .before .if1 .left) (c .if2 .taken)) (λ c κs. search needs)
+    (λ c. rw (c .masked-number .ensures) (with-b6 _ _ _ (c .before .before .if1 .left) (c .before .if2 .left))))
