@@ -1,7 +1,7 @@
 -- Captions leave no patch: the laws that specs/Captions.antt states. Assumes nothing.
 use Prim.Native.Nat.{ℕ, zero, suc, _+_, _/_, _<_}
 use mathlib.Core.Path.{_≡_, refl, sym, ap, _∙_}
-use mathlib.Core.Bool.{Bool, true, false}
+use mathlib.Core.Bool.{Bool, true}
 use mathlib.Core.List.{List}
 use native.Mathlib.Omega.{arith}
 use Rattle.vocabulary.specs.Face.{calledBy}
@@ -9,10 +9,10 @@ use Rattle.vocabulary.specs.Line.{line}
 use Rattle.vocabulary.specs.Outcome.{accepting, answered}
 use Rattle.vocabulary.specs.Range.{meets, fails}
 use Rattle.vocabulary.specs.Refusal.{refusalOf}
-use Rattle.hd153108.specs.Hd153108.{Chip, Table, colour, overlay, tableOf, lineReads, masked, isOff, selected}
-use Rattle.hd153108.specs.Hd153108.{overlayNumber, shownTable, shownEntry, colourAt, shown, colourOf, pixelRefusals}
-use Rattle.hd153108.specs.Hd153108.{pixels, called}
-use Rattle.hd153108.specs.Captions.{captionLine, shownBefore, NoPatch}
+use Rattle.hd153108.specs.Hd153108.{Chip, Table, colour, overlay, tableOf, lineReads, isOff, selected}
+use Rattle.hd153108.specs.Hd153108.{overlayNumber, shownTable, shownEntry, colourAt, shown, colourOf}
+use Rattle.hd153108.specs.Hd153108.{pixelRefusals}
+use Rattle.hd153108.specs.Captions.{bit, captionLine, pictureColour, ShowsPicture, shownBefore, NoPatch}
 use Rattle.hd153108.proofs.Masks.{line-zero, line-off, masked-by-line, masked-fits, masked-zero}
 
 -- a line reads 0 if it is 0, or 1 with its read mask bit 1
@@ -38,11 +38,6 @@ selected-clear : (b6 n : ℕ) → b6 ≡ 0 → selected 1 b6 n ≡ overlay
 unfolding selected
 selected-clear b6 n e = rw e
 
-selected-alike : (enable b6 n m : ℕ) → b6 ≡ 0 → selected enable b6 n ≡ selected enable b6 m
-unfolding selected
-selected-alike zero b6 n m e = refl
-selected-alike (suc enable) b6 n m e = rw e
-
 -- n, and m that it is masked to: what they select shows alike, or n the overlays and m, 0, the colours
 selected-apart : (show : Table → List ℕ) (enable b6 n m : ℕ) → (n ≡ 0 → m ≡ 0)
     → (show (selected enable b6 m) ≡ show (selected enable b6 n) → ⊥)
@@ -62,36 +57,37 @@ two-lines (suc zero) h low high = low
 two-lines (suc (suc zero)) h low high = absurd (let z : ⊥ = omega arith in z)
 two-lines (suc (suc (suc n))) h low high = absurd (let z : ⊥ = omega arith in z)
 
-module _ (c : Chip) (number : ℕ) where
-  -- its blink mask stands two bits above its read mask
-  caption-line : (k : ℕ) → k < 2 → line (overlayNumber number (c .state)) k ≡ captionLine k number (c .state)
+module _ (number : ℕ) (c : Chip) where
+  -- the blink mask stands two bits above the read mask
+  caption-line : (k : ℕ) → k < 2 → line (overlayNumber number (c .state)) k ≡ captionLine k number c
   caption-line k h =
       let s = c .state in
       masked-by-line 2 k (isOff (s .clock)) (s .control) (s .control / 4) number h
-      ∙ ap (λ (b : ℕ). lineReads (isOff (s .clock)) (line (s .control) k) b (line number k)) (above k h)
+      ∙ ap (λ (b : ℕ). lineReads (isOff (s .clock)) (bit k c) b (line number k)) (above k h)
     where
-      above : (k : ℕ) → k < 2 → line (c .state .control / 4) k ≡ line (c .state .control) (k + 2)
+      above : (k : ℕ) → k < 2 → line (c .state .control / 4) k ≡ bit (k + 2) c
       above zero h = omega arith
       above (suc zero) h = omega arith
       above (suc (suc k)) h = absurd (let z : ⊥ = omega arith in z)
 
-  caption-hidden : ((k : ℕ) → k < 2 → captionLine k number (c .state) ≡ 0) → overlayNumber number (c .state) ≡ 0
+  caption-hidden : ((k : ℕ) → k < 2 → captionLine k number c ≡ 0) → overlayNumber number (c .state) ≡ 0
   caption-hidden h =
       let s = c .state in
       let fits = masked-fits 2 (isOff (s .clock)) (s .control) (s .control / 4) number in
       two-lines _ fits (caption-line 0 (omega arith) ∙ h 0 (omega arith))
       (caption-line 1 (omega arith) ∙ h 1 (omega arith))
 
-  caption-seen : (k : ℕ) → k < 2 → captionLine k number (c .state) ≡ 1 → overlayNumber number (c .state) ≡ 0 → ⊥
+  caption-seen : (k : ℕ) → k < 2 → captionLine k number c ≡ 1 → overlayNumber number (c .state) ≡ 0 → ⊥
   caption-seen zero h e z = let l = caption-line 0 h ∙ e in omega arith
   caption-seen (suc zero) h e z = let l = caption-line 1 h ∙ e in omega arith
   caption-seen (suc (suc k)) h e z = absurd (let z : ⊥ = omega arith in z)
 
-  -- with bit 6 the colours where each line is hidden; the overlays where one is seen, and with bit 6 clear
-  caption-table : (line (c .state .control) 6 ≡ 1 → ((k : ℕ) → k < 2 → captionLine k number (c .state) ≡ 0)
+  -- the table of a caption: with bit 6 the colours where each line is hidden; the overlays where one is seen, and with
+  -- bit 6 clear
+  caption-table : (bit 6 c ≡ 1 → ((k : ℕ) → k < 2 → captionLine k number c ≡ 0)
       → shownTable 1 number (c .state) ≡ colour)
-      × ((k : ℕ) → k < 2 → captionLine k number (c .state) ≡ 1 → shownTable 1 number (c .state) ≡ overlay)
-      × (line (c .state .control) 6 ≡ 0 → shownTable 1 number (c .state) ≡ overlay)
+      × ((k : ℕ) → k < 2 → captionLine k number c ≡ 1 → shownTable 1 number (c .state) ≡ overlay)
+      × (bit 6 c ≡ 0 → shownTable 1 number (c .state) ≡ overlay)
   caption-table = (
     λ b h. selected-hidden _ _ b (caption-hidden h),
     λ k h e. selected-seen _ _ (caption-seen k h e),
@@ -100,66 +96,43 @@ module _ (c : Chip) (number : ℕ) where
 
 -- ---- What shows
 
-module _ (c : Chip) (number byte : ℕ) where
-  -- an entry of a table
+module _ (number byte : ℕ) (c : Chip) where
+  -- the entry of a table
   abbrev entryOf : Table → List ℕ
   entryOf t = colourAt (shownEntry t number byte (c .state)) (tableOf t c)
 
-  shows-picture : (enable : ℕ) → shownTable enable number (c .state) ≡ colour
-      → shown enable number byte c ≡ shown 0 number byte c
-  unfolding shown selected
-  shows-picture enable e = ap entryOf e
-
-  -- with bit 6 a caption whose lines are hidden is the picture's call, refused or not
-  each-hidden : line (c .state .control) 6 ≡ 1 → ((k : ℕ) → k < 2 → captionLine k number (c .state) ≡ 0)
-      → called (pixels 1 number byte) c ≡ called (pixels 0 number byte) c
-  unfolding calledBy fails meets
+  each-hidden : bit 6 c ≡ 1 → ((k : ℕ) → k < 2 → captionLine k number c ≡ 0) → ShowsPicture number byte c
+  unfolding calledBy fails meets shown selected
   each-hidden b h =
-      ap (λ (bytes : List ℕ). answered (refusalOf (pixelRefusals 0 number c)) c (accepting (colourOf bytes) 0 c))
-      (shows-picture 1 (caption-table c number .0 b h))
+      ap (λ (t : Table). answered (refusalOf (pixelRefusals 0 number c)) c (accepting (colourOf (entryOf t)) 0 c))
+      (caption-table number c .0 b h)
 
-  blinked-off : line (c .state .control) 6 ≡ 1 → isOff (c .state .clock) ≡ true → line (c .state .control) 2 ≡ 0
-      → line (c .state .control) 3 ≡ 0 → called (pixels 1 number byte) c ≡ called (pixels 0 number byte) c
-  blinked-off b off low high = each-hidden b both
-    where
-      both : (k : ℕ) → k < 2 → captionLine k number (c .state) ≡ 0
-      both zero h = rw (off, low) (line-off _ _)
-      both (suc zero) h = rw (off, high) (line-off _ _)
-      both (suc (suc k)) h = absurd (let z : ⊥ = omega arith in z)
-
-  read-masked : line (c .state .control) 6 ≡ 1
-      → ((k : ℕ) → k < 2 → line number k ≡ 1 → line (c .state .control) k ≡ 1)
-      → called (pixels 1 number byte) c ≡ called (pixels 0 number byte) c
-  read-masked b hides = each-hidden b (λ k h. hidden-line _ _ _ _ (omega arith) (hides k h))
-
-  seen : (k : ℕ) → k < 2 → captionLine k number (c .state) ≡ 1
-      → shown 1 number byte c ≡ colourAt (overlayNumber number (c .state)) (c .overlays)
-  unfolding shown shownEntry
-  seen k h e = ap entryOf (caption-table c number .1 k h e)
-
-  -- with bit 6 clear nothing changes; what changes anywhere was the patch
-  bit-six-clear : (enable : ℕ) → line (c .state .control) 6 ≡ 0
-      → shown enable number byte c ≡ shownBefore enable number byte c
-  unfolding shown
-  bit-six-clear enable b = ap entryOf (selected-alike enable _ _ _ b)
+  blinked-off : isOff (c .state .clock) ≡ true → bit 2 c ≡ 0 → bit 3 c ≡ 0 → (k : ℕ) → k < 2
+      → captionLine k number c ≡ 0
+  blinked-off off low high zero h = rw (off, low) (line-off _ _)
+  blinked-off off low high (suc zero) h = rw (off, high) (line-off _ _)
+  blinked-off off low high (suc (suc k)) h = absurd (let z : ⊥ = omega arith in z)
 
   patch-alone : (enable : ℕ) → ¬ (shown enable number byte c ≡ shownBefore enable number byte c)
-      → (shownBefore enable number byte c ≡ colourAt 0 (c .overlays)) × (shown enable number byte c ≡ shown 0 number byte c)
+      → (shownBefore enable number byte c ≡ colourAt 0 (c .overlays))
+      × (shown enable number byte c ≡ pictureColour byte c)
   unfolding shown shownEntry
   patch-alone enable h =
       let s = c .state in
       let masks : number ≡ 0 → overlayNumber number s ≡ 0 = λ e. rw e (masked-zero 2 (isOff (s .clock)) _ _) in
       let (none, before, after) = selected-apart entryOf enable _ number _ masks h in
-      (ap entryOf before ∙ rw none, shows-picture enable after)
+      (ap entryOf before ∙ rw none, ap entryOf after)
 
-pub captions : (c : Chip) (number byte : ℕ) → NoPatch c number byte
-unfolding shown shownEntry selected
-captions c number byte = record {
-  picture = refl;
-  blinked-off = blinked-off c number byte;
-  read-masked = read-masked c number byte;
-  each-hidden = each-hidden c number byte;
-  seen = seen c number byte;
-  bit-six-clear = bit-six-clear c number byte;
-  patch-alone = patch-alone c number byte;
-}
+  pub captions : NoPatch number byte c
+  unfolding shown shownEntry selected
+  captions =
+      let (_, sees, clears) = caption-table number c in
+      record {
+        picture = refl;
+        blinked-off = λ b off low high. each-hidden b (blinked-off off low high);
+        read-masked = λ b hides. each-hidden b (λ k h. hidden-line _ _ _ _ (omega arith) (hides k h));
+        each-hidden = each-hidden;
+        seen = λ k h e. ap entryOf (sees k h e);
+        bit-six-clear = λ b. (ap entryOf (clears b), ap entryOf (clears b ∙ sym (selected-clear _ _ b)));
+        patch-alone = patch-alone;
+      }

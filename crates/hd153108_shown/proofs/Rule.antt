@@ -78,7 +78,8 @@ module _ (enable number byte : ℕ) (s : State) (cs os : List ℕ) {n : ℕ} (e 
     picked-number h = outside-refused enable number byte _ fine (λ g. omega arith)
 
     module _ (i : ℕ) {b off : Bool} (low : enable < 2) (few : number < 4)
-        (test : b ≡ isColour (selected enable (line (s .control) 6) (masked 2 off (s .control) (s .control / 4) number)))
+        (test : b
+        ≡ isColour (selected enable (line (s .control) 6) (masked 2 off (s .control) (s .control / 4) number)))
         (blink : off ≡ isOff (s .clock)) where
       table : b ≡ isColour (shownTable enable number s)
       table = test ∙ rw blink
