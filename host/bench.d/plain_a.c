@@ -1,4 +1,4 @@
-/* Chip A in plain C, from document 01, "Chip A", and document 02, P5. */
+/* Chip A in plain C, from document 01, "Chip A", and document 02, P3 and P5. */
 #include "plain.h"
 
 static unsigned on_time(unsigned timing) { return 4 * ((timing & 15) + 1); }
@@ -134,14 +134,17 @@ zk_a_shown NAME(a_pixel)(zk_a_state s, const uint8_t *colours, size_t colours_le
     int off = s.clock.position >= on_time(s.clock.timing);
     if (CHECKED && refusal == 0 && (enable > 1 || number > 3)) shown.refusal = ZK_OUT_OF_RANGE;
     if (shown.refusal != 0) return shown;
+    if (enable) {
+        number &= (uint8_t)~s.control;
+        if (off) number &= s.control >> 2;
+        number &= 3;
+    }
     if (!enable || ((s.control & 0x40) != 0 && number == 0)) {
         byte &= (uint8_t)~s.readmask;
         if (off) byte &= s.blinkmask;
         entry = colours + 3 * byte;
     } else {
-        number &= (uint8_t)~s.control;
-        if (off) number &= s.control >> 2;
-        entry = overlays + 3 * (number & 3);
+        entry = overlays + 3 * number;
     }
     shown.red = entry[0];
     shown.green = entry[1];

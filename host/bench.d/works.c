@@ -98,15 +98,17 @@ static void a_tick(struct lent *lent, struct seen *seen) {
     }
 }
 
-static void pixel_a(struct lent *lent, struct seen *seen, uint8_t enable) {
-    zk_a_state s = {0, 0, 0, 0, 0x80, 0x7e, 0x08, {0x31, 9}};
+static void pixel_a(struct lent *lent, struct seen *seen, uint8_t enable, uint8_t control) {
+    zk_a_state s = {0, 0, 0, 0, 0x80, 0x7e, control, {0x31, 9}};
     for (unsigned i = 0; i < 256; i++) {
         zk_a_shown a = CALL(a_pixel)(s, TABLES, enable, i & 3, (uint8_t)i);
         SEE(a);
     }
 }
-static void a_pixel_colour(struct lent *lent, struct seen *seen) { pixel_a(lent, seen, 0); }
-static void a_pixel_overlay(struct lent *lent, struct seen *seen) { pixel_a(lent, seen, 1); }
+static void a_pixel_colour(struct lent *lent, struct seen *seen) { pixel_a(lent, seen, 0, 0x08); }
+static void a_pixel_overlay(struct lent *lent, struct seen *seen) { pixel_a(lent, seen, 1, 0x08); }
+static void a_pixel_caption(struct lent *lent, struct seen *seen) { pixel_a(lent, seen, 1, 0x4c); }
+static void a_pixel_blinked(struct lent *lent, struct seen *seen) { pixel_a(lent, seen, 1, 0x40); }
 
 /* ---- chip B */
 static zk_b_state with_waiting(struct lent *lent, unsigned waiting) {
@@ -318,6 +320,8 @@ const struct work CALL(works)[WORKS] = {
     {"A tick, lent clock", a_tick, 1, "1 range of the clock"},
     {"A pixel, colour", a_pixel_colour, 1, A_TESTS ", 2 of the pixel"},
     {"A pixel, overlay", a_pixel_overlay, 1, A_TESTS ", 2 of the pixel"},
+    {"A pixel, overlay, bit 6", a_pixel_caption, 1, A_TESTS ", 2 of the pixel"},
+    {"A pixel, overlay blinked off", a_pixel_blinked, 1, A_TESTS ", 2 of the pixel"},
     {"B write colours, queue filling", b_write_filling, 1, B_TESTS},
     {"B write colours, queue full", b_write_full, 1, B_TESTS},
     {"B write address, queue empty", b_write_address, 1, B_TESTS},

@@ -1,6 +1,7 @@
 /* Chip A against plain C of its own, written from source document 003 and document 01: every select, pointer, blink
  * clock and mask, states in and out of range, tables of wrong lengths. Every field and every lent byte is compared. The
- * look, from document 02, P5: every place, both sides of each block, what it must not move. */
+ * look, from document 02, P5: every place, both sides of each block, what it must not move. Captions, from P3: what
+ * shows where their number is masked or blinks. */
 #include "check.h"
 #include "zikombaru.h"
 
@@ -118,8 +119,9 @@ static zk_a_shown pixel_again(zk_a_state s, const struct tables *t, int enable, 
     p.refusal = (uint8_t)refusal_of(s, t, enable <= 1 && number <= 3, 1);
     if (p.refusal != 0) return p;
     int off = s.clock.position >= on_ticks(s.clock.timing);
-    int overlay = enable && !((s.control & 0x40) != 0 && number == 0);
-    const uint8_t *entry = overlay ? t->overlays + 3 * through(2, number, s.control, s.control >> 2, off)
+    int masked = through(2, number, s.control, s.control >> 2, off);
+    int overlay = enable && !((s.control & 0x40) != 0 && masked == 0);
+    const uint8_t *entry = overlay ? t->overlays + 3 * masked
                                    : t->colours + 3 * through(8, byte, s.readmask, s.blinkmask, off);
     p.red = entry[0], p.green = entry[1], p.blue = entry[2];
     return p;
@@ -479,6 +481,50 @@ static void every_pixel(void) {
     met_often(0), met_often(9);
 }
 
+/* document 02, P3, by hand: what a caption shows, an overlay entry or the picture, at timing 31, on for 8 ticks and
+ * off for 16; the picture is what the same pixel shows without enable */
+enum { PICTURE = 4 };
+static const struct caption {
+    uint8_t control, position, number, shows;
+} captions[] = {
+    /* both lines blink */
+    {0x40, 7, 1, 1}, {0x40, 8, 1, PICTURE}, {0x40, 23, 1, PICTURE}, {0x40, 0, 1, 1},
+    {0x40, 7, 2, 2}, {0x40, 8, 2, PICTURE}, {0x40, 7, 3, 3}, {0x40, 8, 3, PICTURE},
+    /* none, line 1 alone, line 0 alone */
+    {0x4c, 8, 1, 1}, {0x4c, 8, 2, 2}, {0x4c, 8, 3, 3},
+    {0x44, 8, 1, 1}, {0x44, 8, 2, PICTURE}, {0x44, 8, 3, 1},
+    {0x48, 8, 1, PICTURE}, {0x48, 8, 2, 2}, {0x48, 8, 3, 2},
+    /* line 0 masked, line 1, both, none of them blinking */
+    {0x4d, 7, 1, PICTURE}, {0x4d, 8, 1, PICTURE}, {0x4d, 7, 2, 2}, {0x4d, 8, 3, 2},
+    {0x4e, 7, 2, PICTURE}, {0x4e, 8, 2, PICTURE}, {0x4e, 7, 1, 1}, {0x4e, 8, 3, 1},
+    {0x4f, 7, 3, PICTURE}, {0x4f, 8, 3, PICTURE},
+    /* one line masked, the other blinking */
+    {0x41, 7, 3, 2}, {0x41, 8, 3, PICTURE}, {0x42, 7, 3, 1}, {0x42, 8, 3, PICTURE},
+    /* number 0; bit 6 clear */
+    {0x40, 7, 0, PICTURE}, {0x4c, 8, 0, PICTURE},
+    {0x00, 7, 1, 1}, {0x00, 8, 1, 0}, {0x0d, 7, 1, 0}, {0x0c, 8, 0, 0},
+};
+
+/* every colour has three equal bytes, no overlay has */
+static void captions_leave_no_patch(void) {
+    struct tables t = new_tables(768, 12);
+    for (int i = 0; i < 768; i++) t.colours[i] = (uint8_t)(i / 3);
+    for (int i = 0; i < 12; i++) t.overlays[i] = (uint8_t)(i % 3 ? i / 3 : 0xff);
+    for (size_t i = 0; i < sizeof captions / sizeof *captions; i++)
+        for (int byte = 0; byte < 256; byte++) {
+            const struct caption *p = &captions[i];
+            zk_a_state s = good_state();
+            s.control = p->control, s.clock.timing = 0x31, s.clock.position = p->position;
+            zk_a_shown got = zk_a_pixel(s, t.colours, 768, t.overlays, 12, 1, p->number, (uint8_t)byte);
+            zk_a_shown picture = zk_a_pixel(s, t.colours, 768, t.overlays, 12, 0, p->number, (uint8_t)byte);
+            const uint8_t *want = p->shows == PICTURE ? &picture.red : t.overlays + 3 * p->shows;
+            CHECK(got.refusal == 0 && memcmp(&got.red, want, 3) == 0,
+                  "control %02x, position %u, number %u, byte %02x: %02x %02x %02x, not %02x %02x %02x", p->control,
+                  p->position, p->number, (unsigned)byte, got.red, got.green, got.blue, want[0], want[1], want[2]);
+            one_pixel(s, 1, p->number, byte, &t);
+        }
+}
+
 /* document 01, "Both sides of each edge" */
 static void both_sides_of_each_edge(void) {
     const struct tables *t = &lent[0][0];
@@ -514,6 +560,7 @@ int main(void) {
     RUN(reset_from_any_state);
     RUN(every_clock);
     RUN(every_pixel);
+    RUN(captions_leave_no_patch);
     RUN(both_sides_of_each_edge);
     FINISH();
 }

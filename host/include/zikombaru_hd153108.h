@@ -94,7 +94,13 @@ zk_a_clock_answer zk_a_step(zk_a_clock clock);
 uint8_t zk_a_tick(zk_a_clock *clock);
 
 /* The colour that a pixel shows, of an overlay enable (0 or 1), an overlay number (0 to 3) and a byte; and its refusal
- * alone. Both change nothing. */
+ * alone. Both change nothing.
+ *
+ * A line whose read mask bit is 1 reads 0, and so does, in the off time, one whose blink mask bit is 0: of the byte by
+ * the two mask registers, of the overlay number by bits 0, 1 (read mask) and 2, 3 (blink mask) of the overlay control.
+ * Without enable the colour at the byte so masked shows. With enable the overlay at the number so masked does; but
+ * where that number is 0 and bit 6 of the overlay control is 1, the colour: a caption that is masked, or blinks off,
+ * shows the picture under it. */
 zk_a_shown zk_a_pixel(zk_a_state state, const uint8_t *colours, size_t colours_length, const uint8_t *overlays,
                       size_t overlays_length, uint8_t enable, uint8_t number, uint8_t byte);
 uint8_t zk_a_pixel_refusal(zk_a_state state, const uint8_t *colours, size_t colours_length, const uint8_t *overlays,

@@ -6,12 +6,9 @@ use mathlib.Core.List.{List}
 use native.Mathlib.Omega.{arith}
 use Rattle.vocabulary.specs.Face.{calledBy}
 use Rattle.vocabulary.specs.Line.{line}
-use Rattle.vocabulary.specs.Outcome.{accepting, answered}
 use Rattle.vocabulary.specs.Range.{meets, fails}
-use Rattle.vocabulary.specs.Refusal.{refusalOf}
 use Rattle.hd153108.specs.Hd153108.{Chip, Table, colour, overlay, tableOf, lineReads, isOff, selected}
-use Rattle.hd153108.specs.Hd153108.{overlayNumber, shownTable, shownEntry, colourAt, shown, colourOf}
-use Rattle.hd153108.specs.Hd153108.{pixelRefusals}
+use Rattle.hd153108.specs.Hd153108.{overlayNumber, shownTable, shownEntry, colourAt, shown}
 use Rattle.hd153108.specs.Captions.{bit, captionLine, pictureColour, ShowsPicture, shownBefore, NoPatch}
 use Rattle.hd153108.proofs.Masks.{line-zero, line-off, masked-by-line, masked-fits, masked-zero}
 
@@ -23,10 +20,6 @@ hidden-line off read blink (suc zero) h f = rw (f refl)
 hidden-line off read blink (suc (suc x)) h f = absurd (let z : ⊥ = omega arith in z)
 
 -- ---- Which table, by the enable, bit 6 and the number
-
-selected-hidden : (b6 n : ℕ) → b6 ≡ 1 → n ≡ 0 → selected 1 b6 n ≡ colour
-unfolding selected
-selected-hidden b6 n e f = rw (e, f)
 
 selected-seen : (b6 n : ℕ) → (n ≡ 0 → ⊥) → selected 1 b6 n ≡ overlay
 unfolding selected
@@ -82,17 +75,17 @@ module _ (number : ℕ) (c : Chip) where
   caption-seen (suc zero) h e z = let l = caption-line 1 h ∙ e in omega arith
   caption-seen (suc (suc k)) h e z = absurd (let z : ⊥ = omega arith in z)
 
-  -- the table of a caption: with bit 6 the colours where each line is hidden; the overlays where one is seen, and with
-  -- bit 6 clear
-  caption-table : (bit 6 c ≡ 1 → ((k : ℕ) → k < 2 → captionLine k number c ≡ 0)
-      → shownTable 1 number (c .state) ≡ colour)
-      × ((k : ℕ) → k < 2 → captionLine k number c ≡ 1 → shownTable 1 number (c .state) ≡ overlay)
-      × (bit 6 c ≡ 0 → shownTable 1 number (c .state) ≡ overlay)
-  caption-table = (
-    λ b h. selected-hidden _ _ b (caption-hidden h),
-    λ k h e. selected-seen _ _ (caption-seen k h e),
-    λ b. selected-clear _ _ b,
-  )
+  -- the table of a caption: with bit 6 the colours where each line is hidden
+  table-hidden : bit 6 c ≡ 1 → ((k : ℕ) → k < 2 → captionLine k number c ≡ 0) → shownTable 1 number (c .state) ≡ colour
+  unfolding selected
+  table-hidden b h = simp (b, caption-hidden h)
+
+  -- the overlays where a line is seen, and with bit 6 clear
+  table-seen : (k : ℕ) → k < 2 → captionLine k number c ≡ 1 → shownTable 1 number (c .state) ≡ overlay
+  table-seen k h e = selected-seen _ _ (caption-seen k h e)
+
+  table-clear : bit 6 c ≡ 0 → shownTable 1 number (c .state) ≡ overlay
+  table-clear b = selected-clear _ _ b
 
 -- ---- What shows
 
@@ -101,11 +94,15 @@ module _ (number byte : ℕ) (c : Chip) where
   abbrev entryOf : Table → List ℕ
   entryOf t = colourAt (shownEntry t number byte (c .state)) (tableOf t c)
 
+  shows-picture : bit 6 c ≡ 1 → ((k : ℕ) → k < 2 → captionLine k number c ≡ 0)
+      → shown 1 number byte c ≡ shown 0 number byte c
+  unfolding shown selected
+  shows-picture b h = ap entryOf (table-hidden number c b h)
+
+  -- the two calls are refused alike
   each-hidden : bit 6 c ≡ 1 → ((k : ℕ) → k < 2 → captionLine k number c ≡ 0) → ShowsPicture number byte c
-  unfolding calledBy fails meets shown selected
-  each-hidden b h =
-      ap (λ (t : Table). answered (refusalOf (pixelRefusals 0 number c)) c (accepting (colourOf (entryOf t)) 0 c))
-      (caption-table number c .0 b h)
+  unfolding calledBy fails meets
+  each-hidden b h = rw (shows-picture b h)
 
   blinked-off : isOff (c .state .clock) ≡ true → bit 2 c ≡ 0 → bit 3 c ≡ 0 → (k : ℕ) → k < 2
       → captionLine k number c ≡ 0
@@ -125,14 +122,13 @@ module _ (number byte : ℕ) (c : Chip) where
 
   pub captions : NoPatch number byte c
   unfolding shown shownEntry selected
-  captions =
-      let (_, sees, clears) = caption-table number c in
-      record {
-        picture = refl;
-        blinked-off = λ b off low high. each-hidden b (blinked-off off low high);
-        read-masked = λ b hides. each-hidden b (λ k h. hidden-line _ _ _ _ (omega arith) (hides k h));
-        each-hidden = each-hidden;
-        seen = λ k h e. ap entryOf (sees k h e);
-        bit-six-clear = λ b. (ap entryOf (clears b), ap entryOf (clears b ∙ sym (selected-clear _ _ b)));
-        patch-alone = patch-alone;
-      }
+  captions = record {
+    picture = refl;
+    blinked-off = λ b off low high. each-hidden b (blinked-off off low high);
+    read-masked = λ b hides. each-hidden b (λ k h. hidden-line _ _ _ _ (omega arith) (hides k h));
+    each-hidden = each-hidden;
+    seen = λ k h e. ap entryOf (table-seen number c k h e);
+    bit-six-clear = λ b.
+        let e = table-clear number c b in (ap entryOf e, ap entryOf (e ∙ sym (selected-clear _ _ b)));
+    patch-alone = patch-alone;
+  }

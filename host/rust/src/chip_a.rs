@@ -2,12 +2,14 @@
 //!
 //! Document 01, "Chip A" and "The nine refusals", decides, over data sheet 003: Tables 1.1 and 1.2 (selects, overlay
 //! control), 2 and 3 (pointer and address), 4 (overlay or colour), 5.1 and 5.2 (blink times); then the rulings under
-//! "All chips" and "Chip A". Of the look, document 02, P5, and REPLAY.md's list of places.
+//! "All chips" and "Chip A". Of the look, document 02, P5, and REPLAY.md's list of places. Of the test for overlay
+//! number 0, document 02, P3, over document 01.
 //!
 //! Doubts and choices:
 //! - A blue write stores the latches; nothing says that it clears them, so they stay.
 //! - The low four bits are for data writes (selects 1 and 3); address and registers take the whole byte.
-//! - With bit 6 and overlay number 0, Table 4 shows the colour at the pixel byte: the masked byte, as without enable.
+//! - With bit 6 and overlay number 0 after read mask and blink, Table 4 shows the colour at the pixel byte: the masked
+//!   byte, as without enable.
 //! - A line with its read mask bit set reads 0 in the on time too; the blink mask only takes further lines away.
 use crate::answer::{colour, refused, value, Answer, DONE};
 
@@ -188,11 +190,12 @@ pub fn pixel(s: &State, colours: &[u8], overlays: &[u8], enable: u8, number: u8,
             read
         }
     };
-    let see_through = s.overlay & 0b0100_0000 != 0 && number == 0;
+    let masked_number = masked(number, s.overlay & 3, (s.overlay >> 2) & 3);
+    let see_through = s.overlay & 0b0100_0000 != 0 && masked_number == 0;
     let (table, entry) = if enable == 0 || see_through {
         (colours, masked(byte, s.read_mask, s.blink_mask))
     } else {
-        (overlays, masked(number, s.overlay & 3, (s.overlay >> 2) & 3))
+        (overlays, masked_number)
     };
     let first = 3 * usize::from(entry);
     colour([table[first], table[first + 1], table[first + 2]])
@@ -399,19 +402,46 @@ mod tests {
     }
 
     #[test]
-    fn overlay_masks_and_the_number_as_given() {
+    fn overlay_masks() {
         let mut c = chip();
         w(&mut c, 6, 0x0d);
         assert_eq!(shown(&mut c, 1, 3, 0x22), [2, 15, 1]);
         w(&mut c, 6, 0x44);
         assert_eq!(shown(&mut c, 1, 3, 0x22), [3, 15, 1]);
-        assert_eq!(shown(&mut c, 1, 0, 0x22), [0x22, 0xc0, 0]);
         c.state.clock.position = 4;
         assert_eq!(shown(&mut c, 1, 3, 0x22), [1, 15, 1]);
-        assert_eq!(shown(&mut c, 1, 2, 0x22), [0, 15, 1]);
-        assert_eq!(shown(&mut c, 1, 0, 0x22), [0, 0xc0, 0]);
         w(&mut c, 6, 0x03);
         assert_eq!(shown(&mut c, 1, 0, 0x22), [0, 15, 1]);
+    }
+
+    #[test]
+    fn bit_6_tests_the_number_after_read_mask_and_blink() {
+        let mut c = chip();
+        w(&mut c, 5, 0xff);
+        let picture = [0x22, 0xc0, 0];
+        // bits 0, 1 read mask and 2, 3 blink mask the two lines; numbers 0 to 3, in the on time and in the off time
+        let (o1, o2, o3) = ([1, 15, 1], [2, 15, 1], [3, 15, 1]);
+        for (control, on, off) in [
+            (0x40, [picture, o1, o2, o3], [picture, picture, picture, picture]),
+            (0x4c, [picture, o1, o2, o3], [picture, o1, o2, o3]),
+            (0x44, [picture, o1, o2, o3], [picture, o1, picture, o1]),
+            (0x41, [picture, picture, o2, o2], [picture, picture, picture, picture]),
+            (0x4e, [picture, o1, picture, o1], [picture, o1, picture, o1]),
+            (0x4f, [picture, picture, picture, picture], [picture, picture, picture, picture]),
+        ] {
+            w(&mut c, 6, control);
+            for (position, want) in [(3, on), (4, off)] {
+                c.state.clock.position = position;
+                assert_eq!([0, 1, 2, 3].map(|n| shown(&mut c, 1, n, 0x22)), want, "{:#x} {}", control, position);
+            }
+        }
+        // without bit 6 a number that is hidden is overlay 0
+        w(&mut c, 6, 0x00);
+        assert_eq!(shown(&mut c, 1, 3, 0x22), [0, 15, 1]);
+        // the picture in the off time is masked itself
+        w(&mut c, 6, 0x40);
+        w(&mut c, 5, 0x0f);
+        assert_eq!(shown(&mut c, 1, 3, 0x22), [0x02, 0xc0, 0]);
     }
 
     #[test]

@@ -1,3 +1,6 @@
+use Prim.Native.Nat.{ℕ}
+use mathlib.Core.Path.{ap, _∙_}
+use lib.Dec.{eqb}
 use Rattle.hd153108_shown.proofs.Rule.{without-enable, without-b6, with-b6}
 use borrow.Author.Needs.{needs}
 use Rattle.hd153108_shown.proofs.shows_colour.Statement.{statement}
@@ -8,4 +11,6 @@ shows-colour-spec =
     tie.close
     (tie.spec (λ c. without-enable _ _ _ (c .if1 .taken))
     (λ c. without-b6 _ _ _ (c .before .if1 .left) (c .if2 .taken)) (λ c κs. search needs)
-    (λ c. rw (c .masked-number .ensures) (with-b6 _ _ _ (c .before .before .if1 .left) (c .before .if2 .left))))
+    (λ c.
+    ap (λ (n : ℕ). eqb n 0) (c .masked-number .ensures)
+    ∙ with-b6 _ _ _ (c .before .before .if1 .left) (c .before .if2 .left)))
