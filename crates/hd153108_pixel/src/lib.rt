@@ -1,9 +1,10 @@
 // The HD153108's pixel (chip A): the colour that hd153108_shown picks, handed back.
 //
-// Source document 003, Table 4, with document 01's rulings, decides; the rule is `pixelPart` of hd153108's
-// specs/Hd153108.antt, which is `called` of `pixels` (`pixel-lent` says that they are one). The shown colour is handed
-// back as a part of a lent table, not copied; hd153108_pixel_c has the copy for C, and hd153108_pixel_refusal the
-// refusal. The call changes neither state nor table. Not modelled: analogue output, blanking, pipeline delay.
+// Source document 003, Table 4, with document 01's rulings and request P3, decides; the rule is `pixelPart` of
+// hd153108's specs/Hd153108.antt, which is `called` of `pixels` (`pixel-lent` says that they are one). The shown
+// colour is handed back as a part of a lent table, not copied; hd153108_pixel_c has the copy for C, and
+// hd153108_pixel_refusal the refusal. The call changes neither state nor table. Not modelled: analogue output,
+// blanking, pipeline delay.
 use hd153108::State;
 use hd153108_shown::Pick;
 use hd153108_shown::picked;

@@ -1,8 +1,8 @@
 // The HD153108's pixel for C (chip A): the colour that hd153108_shown picks, its three bytes copied.
 //
-// Source document 003, Table 4, with document 01's rulings, decides; the rule is `called` of `pixels` in hd153108's
-// specs/Hd153108.antt. The call changes neither state nor table. Not modelled: analogue output, blanking, pipeline
-// delay.
+// Source document 003, Table 4, with document 01's rulings and request P3, decides; the rule is `called` of `pixels`
+// in hd153108's specs/Hd153108.antt. The call changes neither state nor table. Not modelled: analogue output,
+// blanking, pipeline delay.
 use hd153108::State;
 use hd153108_shown::Pick;
 use hd153108_shown::picked;

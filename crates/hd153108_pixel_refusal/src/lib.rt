@@ -1,7 +1,7 @@
 // The HD153108's pixel (chip A): the refusal of the pixel that hd153108_shown picks.
 //
-// Source document 003, Table 4, with document 01's rulings, decides; the rule is `called` of `pixels` in hd153108's
-// specs/Hd153108.antt. The call changes neither state nor table. Not modelled: as in hd153108_pixel.
+// Source document 003, Table 4, with document 01's rulings and request P3, decides; the rule is `called` of `pixels`
+// in hd153108's specs/Hd153108.antt. The call changes neither state nor table. Not modelled: as in hd153108_pixel.
 use hd153108::State;
 use hd153108_shown::Pick;
 use hd153108_shown::picked;

@@ -1,8 +1,8 @@
 // The HD153108's pixel selection (chip A): which entry of which table shows, its lines masked by hd153108_masks.
 //
-// Source document 003, Table 4 and Internal Registers, with document 01's rulings, decides; the rule is `pixelPart` of
-// hd153108's specs/Hd153108.antt, and what a decision means is specs/Picked.antt. Not modelled: analogue output,
-// blanking, pipeline delay.
+// Source document 003, Table 4 and Internal Registers, with document 01's rulings, decides, and document 02's request
+// P3 over them; the rule is `pixelPart` of hd153108's specs/Hd153108.antt, and what a decision means is
+// specs/Picked.antt. Not modelled: analogue output, blanking, pipeline delay.
 use hd153108::State;
 use hd153108_masks::masked_byte;
 use hd153108_masks::masked_number;
