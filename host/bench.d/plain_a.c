@@ -126,28 +126,25 @@ zk_a_clock_answer NAME(a_step)(zk_a_clock k) {
 
 uint8_t NAME(a_tick)(zk_a_clock *k) { return (uint8_t)tick(k); }
 
+static zk_a_shown show(unsigned refusal, const uint8_t *entry) {
+    zk_a_shown shown = {(uint8_t)refusal, entry[0], entry[1], entry[2]};
+    return shown;
+}
+
 zk_a_shown NAME(a_pixel)(zk_a_state s, const uint8_t *colours, size_t colours_length, const uint8_t *overlays,
                          size_t overlays_length, uint8_t enable, uint8_t number, uint8_t byte) {
+    static const uint8_t none[3];
     unsigned refusal = standing(s, colours_length, overlays_length);
-    zk_a_shown shown = {(uint8_t)refusal, 0, 0, 0};
-    const uint8_t *entry;
     int off = s.clock.position >= on_time(s.clock.timing);
-    if (CHECKED && refusal == 0 && (enable > 1 || number > 3)) shown.refusal = ZK_OUT_OF_RANGE;
-    if (shown.refusal != 0) return shown;
+    if (CHECKED && refusal == 0 && (enable > 1 || number > 3)) refusal = ZK_OUT_OF_RANGE;
+    if (refusal != 0) return show(refusal, none);
     if (enable) {
         number &= (uint8_t)~s.control;
         if (off) number &= s.control >> 2;
         number &= 3;
+        if ((s.control & 0x40) == 0 || number != 0) return show(0, overlays + 3 * number);
     }
-    if (!enable || ((s.control & 0x40) != 0 && number == 0)) {
-        byte &= (uint8_t)~s.readmask;
-        if (off) byte &= s.blinkmask;
-        entry = colours + 3 * byte;
-    } else {
-        entry = overlays + 3 * number;
-    }
-    shown.red = entry[0];
-    shown.green = entry[1];
-    shown.blue = entry[2];
-    return shown;
+    byte &= (uint8_t)~s.readmask;
+    if (off) byte &= s.blinkmask;
+    return show(0, colours + 3 * byte);
 }

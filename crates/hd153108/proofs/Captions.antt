@@ -6,11 +6,15 @@ use mathlib.Core.List.{List}
 use native.Mathlib.Omega.{arith}
 use Rattle.vocabulary.specs.Face.{calledBy}
 use Rattle.vocabulary.specs.Line.{line}
+use Rattle.vocabulary.specs.Outcome.{accepting}
 use Rattle.vocabulary.specs.Range.{meets, fails}
+use Rattle.vocabulary.proofs.Call.{goes-on}
 use Rattle.hd153108.specs.Hd153108.{Chip, Table, colour, overlay, tableOf, lineReads, isOff, selected}
-use Rattle.hd153108.specs.Hd153108.{overlayNumber, shownTable, shownEntry, colourAt, shown}
+use Rattle.hd153108.specs.Hd153108.{overlayNumber, shownTable, shownEntry, colourAt, shown, colourOf, InRange}
+use Rattle.hd153108.specs.Hd153108.{pixelRefusals, pixels, called}
 use Rattle.hd153108.specs.Captions.{bit, captionLine, pictureColour, ShowsPicture, shownBefore, NoPatch}
-use Rattle.hd153108.proofs.Masks.{line-zero, line-off, masked-by-line, masked-fits, masked-zero}
+use Rattle.hd153108.proofs.InRange.{pixel-clear}
+use Rattle.hd153108.proofs.Masks.{line-zero, line-blinks, masked-by-line, masked-fits, masked-zero}
 
 -- a line reads 0 if it is 0, or 1 with its read mask bit 1
 hidden-line : (off : Bool) (read blink x : ℕ) → x < 2 → (x ≡ 1 → read ≡ 1) → lineReads off read blink x ≡ 0
@@ -94,6 +98,11 @@ module _ (number byte : ℕ) (c : Chip) where
   abbrev entryOf : Table → List ℕ
   entryOf t = colourAt (shownEntry t number byte (c .state)) (tableOf t c)
 
+  pixel-tells : (enable : ℕ) → InRange c → enable < 2 → number < 4
+      → called (pixels enable number byte) c ≡ accepting (colourOf (shown enable number byte c)) 0 c
+  unfolding calledBy
+  pixel-tells enable g e n = sym (goes-on (pixelRefusals enable number c) 0 c _ (pixel-clear c g enable number e n))
+
   shows-picture : bit 6 c ≡ 1 → ((k : ℕ) → k < 2 → captionLine k number c ≡ 0)
       → shown 1 number byte c ≡ shown 0 number byte c
   unfolding shown selected
@@ -106,8 +115,8 @@ module _ (number byte : ℕ) (c : Chip) where
 
   blinked-off : isOff (c .state .clock) ≡ true → bit 2 c ≡ 0 → bit 3 c ≡ 0 → (k : ℕ) → k < 2
       → captionLine k number c ≡ 0
-  blinked-off off low high zero h = rw (off, low) (line-off _ _)
-  blinked-off off low high (suc zero) h = rw (off, high) (line-off _ _)
+  blinked-off off low high zero h = rw (off, low) (line-blinks _ _)
+  blinked-off off low high (suc zero) h = rw (off, high) (line-blinks _ _)
   blinked-off off low high (suc (suc k)) h = absurd (let z : ⊥ = omega arith in z)
 
   patch-alone : (enable : ℕ) → ¬ (shown enable number byte c ≡ shownBefore enable number byte c)
@@ -123,6 +132,7 @@ module _ (number byte : ℕ) (c : Chip) where
   pub captions : NoPatch number byte c
   unfolding shown shownEntry selected
   captions = record {
+    tells = pixel-tells;
     picture = refl;
     blinked-off = λ b off low high. each-hidden b (blinked-off off low high);
     read-masked = λ b hides. each-hidden b (λ k h. hidden-line _ _ _ _ (omega arith) (hides k h));

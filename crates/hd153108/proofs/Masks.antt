@@ -40,10 +40,10 @@ line-zero true zero (suc b) = refl
 line-zero false zero b = refl
 
 -- in the off time one whose blink mask bit is 0 reads 0, whatever it is
-pub line-off : (r x : ℕ) → lineReads true r 0 x ≡ 0
+pub line-blinks : (r x : ℕ) → lineReads true r 0 x ≡ 0
 unfolding lineReads
-line-off zero x = refl
-line-off (suc r) x = refl
+line-blinks zero x = refl
+line-blinks (suc r) x = refl
 
 -- ---- w lines
 
@@ -110,7 +110,7 @@ module _ (w k : ℕ) (r b x : ℕ) (h : k < w) where
 
   -- in the off time a line whose blink mask bit is 0 reads 0
   pub blinking-line : line b k ≡ 0 → line (masked w true r b x) k ≡ 0
-  blinking-line e = masked-by-line w k true r b x h ∙ rw e (line-off (line r k) (line x k))
+  blinking-line e = masked-by-line w k true r b x h ∙ rw e (line-blinks (line r k) (line x k))
 
   -- every other line reads as it is
   pub line-on : line r k ≡ 0 → line (masked w false r b x) k ≡ line x k

@@ -7,8 +7,9 @@ use mathlib.Core.Path.{_≡_}
 use mathlib.Core.Bool.{true}
 use mathlib.Core.List.{List}
 use Rattle.vocabulary.specs.Line.{line}
+use Rattle.vocabulary.specs.Outcome.{accepting}
 use Rattle.hd153108.specs.Hd153108.{Chip, tableOf, lineReads, masked, isOff, selected, overlayNumber}
-use Rattle.hd153108.specs.Hd153108.{shownEntry, colourAt, shown, pixels, called}
+use Rattle.hd153108.specs.Hd153108.{shownEntry, colourAt, shown, colourOf, InRange, pixels, called}
 
 -- a bit of the overlay control (Table 1.2): b0 and b1 are the read mask of lines 0 and 1, b2 and b3 their blink mask
 abbrev pub bit : ℕ → Chip → ℕ
@@ -37,6 +38,9 @@ shownBefore enable number byte c =
 
 -- of any chip whatever, a caption's number and the picture's byte under it
 pub record NoPatch (number byte : ℕ) (c : Chip) : Type 0 where
+  -- a pixel of a chip in range tells the colour that shows, and leaves the chip
+  pub tells : (enable : ℕ) → InRange c → enable < 2 → number < 4
+      → called (pixels enable number byte) c ≡ accepting (colourOf (shown enable number byte c)) 0 c
   pub picture : shown 0 number byte c ≡ pictureColour byte c
   -- in the off time a caption whose two lines blink shows what the picture shows there
   pub blinked-off : bit 6 c ≡ 1 → isOff (c .state .clock) ≡ true → bit 2 c ≡ 0 → bit 3 c ≡ 0

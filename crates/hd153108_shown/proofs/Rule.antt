@@ -2,7 +2,7 @@
 -- decision knows. Assumes nothing.
 use Prim.Native.Nat.{ℕ, zero, suc, _/_, _≤_, _<_}
 use mathlib.Core.Path.{_≡_, refl, sym, ap, _∙_}
-use mathlib.Core.List.{List, [], _∷_, _++_}
+use mathlib.Core.List.{List, [], _∷_}
 use mathlib.Core.Bool.{Bool, true, false}
 use native.Mathlib.Omega.{arith}
 use lib.Dec.{eqb}
@@ -11,13 +11,13 @@ use Rattle.vocabulary.specs.Line.{line}
 use Rattle.vocabulary.specs.Range.{Holds}
 use Rattle.vocabulary.specs.Refusal.{lentLength, outOfRange}
 use Rattle.vocabulary.specs.Outcome.{Outcome, accepting}
-use Rattle.vocabulary.proofs.Range.{clash, holds-passes, not-fails, holds-parts, fails-right}
+use Rattle.vocabulary.proofs.Range.{clash, not-fails, holds-parts, fails-right}
 use Rattle.vocabulary.proofs.Call.{tried-first, stops, goes-on}
 use Rattle.hd153108.specs.declared.State.{State}
 use Rattle.hd153108.specs.Hd153108.{Chip, chip, Table, colour, overlay, tableOf, isOff, masked, selected, shownTable}
 use Rattle.hd153108.specs.Hd153108.{shownEntry, colourAt, shown, ranges, short, outside, InRange, pixelRanges}
 use Rattle.hd153108.specs.Hd153108.{pixelRefusals, pixelPart, pixels, called}
-use Rattle.hd153108.proofs.InRange.{not-short, ranges-hold}
+use Rattle.hd153108.proofs.InRange.{not-short, pixel-clear}
 use Rattle.hd153108.proofs.Access.{tried, known}
 use Rattle.hd153108.proofs.Lent.{told, pixel-lent}
 use Rattle.hd153108.proofs.Masks.{masked-fits}
@@ -49,9 +49,7 @@ module _ (enable number byte : ℕ) (c : Chip) where
       → accepting 0 0 (colourAt (shownEntry t number byte (c .state)) (tableOf t c)) ≡ pixelPart enable number byte c
   unfolding pixelPart shown
   shows g e n t h =
-      rw (sym h)
-      (goes-on (pixelRefusals enable number c) 0 [] _
-      (not-short c g, (holds-passes (pixelRanges enable number ++ ranges c) (e, (n, ranges-hold c g)), tt)))
+      rw (sym h) (goes-on (pixelRefusals enable number c) 0 [] _ (pixel-clear c g enable number e n))
 
 -- the decision's five ends
 module _ (enable number byte : ℕ) (s : State) (cs os : List ℕ) {n : ℕ} (e : n ≡ tried (chip s cs os)) where
