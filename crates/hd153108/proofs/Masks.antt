@@ -95,7 +95,7 @@ masked-fits zero o r b x = omega arith
 masked-fits (suc w) o r b x =
     omega (arith, line-is-bit (r % 2) (b % 2) (x % 2) o (omega arith), masked-fits w o (r / 2) (b / 2) (x / 2))
 
--- no line that is 1 makes 0
+-- lines that are all 0 make 0
 pub masked-zero : (w : ℕ) (o : Bool) (r b : ℕ) → masked w o r b 0 ≡ 0
 unfolding masked
 masked-zero zero o r b = refl
