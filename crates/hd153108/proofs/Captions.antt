@@ -1,5 +1,5 @@
 -- Captions leave no patch: the laws that specs/Captions.antt states. Assumes nothing.
-use Prim.Native.Nat.{ℕ, zero, suc, _+_, _/_, _<_}
+use Prim.Native.Nat.{ℕ, zero, suc, _+_, _*_, _/_, _<_}
 use mathlib.Core.Path.{_≡_, refl, sym, ap, _∙_}
 use mathlib.Core.Bool.{Bool, true}
 use mathlib.Core.List.{List}
@@ -12,7 +12,8 @@ use Rattle.vocabulary.proofs.Call.{goes-on}
 use Rattle.hd153108.specs.Hd153108.{Chip, Table, colour, overlay, tableOf, lineReads, isOff, selected}
 use Rattle.hd153108.specs.Hd153108.{overlayNumber, shownTable, shownEntry, colourAt, shown, colourOf, InRange}
 use Rattle.hd153108.specs.Hd153108.{pixelRefusals, pixels, called}
-use Rattle.hd153108.specs.Captions.{bit, captionLine, pictureColour, ShowsPicture, shownBefore, NoPatch}
+use Rattle.hd153108.specs.Captions.{bit, captionLine, pictureColour, captionColour, ShowsPicture, shownBefore}
+use Rattle.hd153108.specs.Captions.{NoPatch}
 use Rattle.hd153108.proofs.InRange.{pixel-clear}
 use Rattle.hd153108.proofs.Masks.{line-zero, line-blinks, masked-by-line, masked-fits, masked-zero}
 
@@ -48,11 +49,12 @@ selected-apart show (suc enable) (suc b6) (suc n) (suc m) z h = absurd (h refl)
 
 -- ---- A caption's number, line by line
 
-two-lines : (n : ℕ) → n < 4 → line n 0 ≡ 0 → line n 1 ≡ 0 → n ≡ 0
-two-lines zero h low high = refl
-two-lines (suc zero) h low high = low
-two-lines (suc (suc zero)) h low high = absurd (let z : ⊥ = omega arith in z)
-two-lines (suc (suc (suc n))) h low high = absurd (let z : ⊥ = omega arith in z)
+two-lines : (n : ℕ) → n < 4 → n ≡ line n 1 * 2 + line n 0
+two-lines zero h = refl
+two-lines (suc zero) h = refl
+two-lines (suc (suc zero)) h = refl
+two-lines (suc (suc (suc zero))) h = refl
+two-lines (suc (suc (suc (suc n)))) h = absurd (let z : ⊥ = omega arith in z)
 
 module _ (number : ℕ) (c : Chip) where
   -- the blink mask stands two bits above the read mask
@@ -67,16 +69,18 @@ module _ (number : ℕ) (c : Chip) where
       above (suc zero) h = omega arith
       above (suc (suc k)) h = absurd (let z : ⊥ = omega arith in z)
 
-  caption-hidden : ((k : ℕ) → k < 2 → captionLine k number c ≡ 0) → overlayNumber number (c .state) ≡ 0
-  caption-hidden h =
+  caption-number : overlayNumber number (c .state) ≡ captionLine 1 number c * 2 + captionLine 0 number c
+  caption-number =
       let s = c .state in
-      let fits = masked-fits 2 (isOff (s .clock)) (s .control) (s .control / 4) number in
-      two-lines _ fits (caption-line 0 (omega arith) ∙ h 0 (omega arith))
-      (caption-line 1 (omega arith) ∙ h 1 (omega arith))
+      two-lines _ (masked-fits 2 (isOff (s .clock)) (s .control) (s .control / 4) number)
+      ∙ rw (caption-line 1 (omega arith), caption-line 0 (omega arith))
+
+  caption-hidden : ((k : ℕ) → k < 2 → captionLine k number c ≡ 0) → overlayNumber number (c .state) ≡ 0
+  caption-hidden h = caption-number ∙ rw (h 1 (omega arith), h 0 (omega arith))
 
   caption-seen : (k : ℕ) → k < 2 → captionLine k number c ≡ 1 → overlayNumber number (c .state) ≡ 0 → ⊥
-  caption-seen zero h e z = let l = caption-line 0 h ∙ e in omega arith
-  caption-seen (suc zero) h e z = let l = caption-line 1 h ∙ e in omega arith
+  caption-seen zero h e z = let n = caption-number in omega arith
+  caption-seen (suc zero) h e z = let n = caption-number in omega arith
   caption-seen (suc (suc k)) h e z = absurd (let z : ⊥ = omega arith in z)
 
   -- the table of a caption: with bit 6 the colours where each line is hidden
@@ -108,6 +112,10 @@ module _ (number byte : ℕ) (c : Chip) where
   unfolding shown selected
   shows-picture b h = ap entryOf (table-hidden number c b h)
 
+  shows-caption : shownTable 1 number (c .state) ≡ overlay → shown 1 number byte c ≡ captionColour number c
+  unfolding shown shownEntry
+  shows-caption e = ap entryOf e ∙ ap (λ (n : ℕ). colourAt n (c .overlays)) (caption-number number c)
+
   -- the two calls are refused alike
   each-hidden : bit 6 c ≡ 1 → ((k : ℕ) → k < 2 → captionLine k number c ≡ 0) → ShowsPicture number byte c
   unfolding calledBy fails meets
@@ -137,8 +145,8 @@ module _ (number byte : ℕ) (c : Chip) where
     blinked-off = λ b off low high. each-hidden b (blinked-off off low high);
     read-masked = λ b hides. each-hidden b (λ k h. hidden-line _ _ _ _ (omega arith) (hides k h));
     each-hidden = each-hidden;
-    seen = λ k h e. ap entryOf (table-seen number c k h e);
+    seen = λ k h e. shows-caption (table-seen number c k h e);
     bit-six-clear = λ b.
-        let e = table-clear number c b in (ap entryOf e, ap entryOf (e ∙ sym (selected-clear _ _ b)));
+        let e = table-clear number c b in (shows-caption e, ap entryOf (e ∙ sym (selected-clear _ _ b)));
     patch-alone = patch-alone;
   }

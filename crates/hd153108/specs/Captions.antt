@@ -2,14 +2,14 @@
 -- instead of showing the picture. Measured on two original chips, the test for overlay number 0 with bit 6 set is made
 -- on the number after read mask and blink." A caption is a pixel with the overlay enabled; the picture is what shows
 -- without it. The chip's definitions do not rest on this file.
-use Prim.Native.Nat.{ℕ, _+_, _<_}
+use Prim.Native.Nat.{ℕ, _+_, _*_, _<_}
 use mathlib.Core.Path.{_≡_}
 use mathlib.Core.Bool.{true}
 use mathlib.Core.List.{List}
 use Rattle.vocabulary.specs.Line.{line}
 use Rattle.vocabulary.specs.Outcome.{accepting}
-use Rattle.hd153108.specs.Hd153108.{Chip, tableOf, lineReads, masked, isOff, selected, overlayNumber}
-use Rattle.hd153108.specs.Hd153108.{shownEntry, colourAt, shown, colourOf, InRange, pixels, called}
+use Rattle.hd153108.specs.Hd153108.{Chip, tableOf, lineReads, masked, isOff, selected, shownEntry, colourAt}
+use Rattle.hd153108.specs.Hd153108.{shown, colourOf, InRange, pixels, called}
 
 -- a bit of the overlay control (Table 1.2): b0 and b1 are the read mask of lines 0 and 1, b2 and b3 their blink mask
 abbrev pub bit : ℕ → Chip → ℕ
@@ -19,13 +19,13 @@ bit k c = line (c .state .control) k
 abbrev pub captionLine : ℕ → ℕ → Chip → ℕ
 captionLine k number c = lineReads (isOff (c .state .clock)) (bit k c) (bit (k + 2) c) (line number k)
 
--- the colour of the picture, at the masked byte, and of a caption, at the masked number
+-- the colour of the picture, at the masked byte, and of a caption, at the number that its two lines read
 abbrev pub pictureColour : ℕ → Chip → List ℕ
 pictureColour byte c =
     let s = c .state in colourAt (masked 8 (isOff (s .clock)) (s .readmask) (s .blinkmask) byte) (c .colours)
 
 abbrev pub captionColour : ℕ → Chip → List ℕ
-captionColour number c = colourAt (overlayNumber number (c .state)) (c .overlays)
+captionColour number c = colourAt (captionLine 1 number c * 2 + captionLine 0 number c) (c .overlays)
 
 -- a caption shows what the picture shows there; refused, both are
 abbrev pub ShowsPicture : ℕ → ℕ → Chip → Type 0
