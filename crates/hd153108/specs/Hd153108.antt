@@ -46,10 +46,9 @@ pub data Register : Type 0 where
   blinkTiming : Register
 
 -- Table 1.1, Register Mapping: selects 0 to 7
-unfoldable pub registerAt : ℕ → Register
-registerAt select =
-    getD
-    (addressRegister ∷
+abbrev pub registerMapping : List Register
+registerMapping =
+    addressRegister ∷
     dataOf colour ∷
     reserved ∷
     dataOf overlay ∷
@@ -57,8 +56,10 @@ registerAt select =
     blinkMask ∷
     overlayControl ∷
     blinkTiming ∷
-    [])
-    select reserved
+    []
+
+unfoldable pub registerAt : ℕ → Register
+registerAt select = getD registerMapping select reserved
 
 -- Table 2: A0-A1 are the R.G.B pointer (`componentAt`), and A2-A9 select the word, $00-$FF of the colours; of the
 -- overlays the low two bits do (ruling)
