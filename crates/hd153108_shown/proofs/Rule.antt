@@ -23,7 +23,7 @@ use Rattle.hd153108.proofs.Lent.{told, pixel-lent}
 use Rattle.hd153108.proofs.Masks.{masked-fits}
 use Rattle.hd153108_shown.specs.declared.Pick.{Pick}
 use Rattle.hd153108_shown.specs.declared.Pick.the-variants.{Colour, Overlay, Refused}
-use Rattle.hd153108_shown.specs.Picked.{isColour, meaning, Inside, Picked}
+use Rattle.hd153108_shown.specs.Picked.{isColour, meaning, Inside, Which, Picked}
 
 is-colour : (t : Table) → isColour t ≡ true → t ≡ colour
 is-colour colour e = refl
@@ -42,6 +42,7 @@ module _ (enable number byte : ℕ) (c : Chip) where
         stops (pixelRefusals enable number c) 0 [] _ (lentLength ∷ []) outOfRange 8 _ refl refl (not-short c g, tt)
         (not-fails _ (λ f. h (holds-parts (pixelRanges enable number) (ranges c) f .0)));
     inside = tt;
+    which = tt;
   }
 
   -- the table's entry, and its part
@@ -63,6 +64,7 @@ module _ (enable number byte : ℕ) (s : State) (cs os : List ℕ) {n : ℕ} (e 
             tried-first (pixelRefusals enable number c) 0 [] _ (short c) (outside c) n refl
             (fails-right (pixelRanges enable number) (ranges c)) e h;
         inside = tt;
+        which = tt;
       }
 
   module _ (clear : n ≡ 0) where
@@ -87,9 +89,11 @@ module _ (enable number byte : ℕ) (s : State) (cs os : List ℕ) {n : ℕ} (e 
       unfolding shownEntry
       picked-colour h p =
           let entry : i ≡ shownEntry colour number byte s = p ∙ rw blink in
+          let shown = is-colour _ (sym table ∙ h) in
           record {
-            means = rw entry (shows enable number byte _ fine low few colour (is-colour _ (sym table ∙ h)));
+            means = rw entry (shows enable number byte _ fine low few colour shown);
             inside = omega (arith, fine .colours, masked-fits 8 (isOff (s .clock)) (s .readmask) (s .blinkmask) byte);
+            which = (shown, entry);
           }
 
       pub picked-overlay : b ≡ false → i ≡ masked 2 off (s .control) (s .control / 4) number
@@ -97,13 +101,15 @@ module _ (enable number byte : ℕ) (s : State) (cs os : List ℕ) {n : ℕ} (e 
       unfolding shownEntry
       picked-overlay h p =
           let entry : i ≡ shownEntry overlay number byte s = p ∙ rw blink in
+          let shown = is-overlay _ (sym table ∙ h) in
           record {
-            means = rw entry (shows enable number byte _ fine low few overlay (is-overlay _ (sym table ∙ h)));
+            means = rw entry (shows enable number byte _ fine low few overlay shown);
             inside =
                 omega (arith, fine .overlays, masked-fits 2 (isOff (s .clock)) (s .control) (s .control / 4) number);
+            which = (shown, entry);
           }
 
--- what is known of a decision that is q: the part, the refusal, the pixel's outcome
+-- what is known of a decision that is q: the part and where it lies, the refusal, the pixel's outcome
 module _ {enable number byte : ℕ} {c : Chip} {p q : Pick} (k : Picked enable number byte c p) (e : p ≡ q) where
   means-as : meaning c q ≡ pixelPart enable number byte c
   means-as = rw e at (k .means)
@@ -119,6 +125,9 @@ module _ {enable number byte : ℕ} {c : Chip} {p q : Pick} (k : Picked enable n
 
   pub inside-as : Inside c q
   inside-as = rw e at (k .inside)
+
+  pub which-as : Which enable number byte (c .state) q
+  which-as = rw e at (k .which)
 
 -- the test of the table: without enable; where b6 is 0; where b6 is 1
 module _ (enable b6 number : ℕ) where

@@ -5,7 +5,8 @@ use mathlib.Core.Bool.{Bool, true, false}
 use mathlib.Core.List.{List, []}
 use lib.ListN.{length}
 use Rattle.vocabulary.specs.Outcome.{Outcome, accepting, refusing}
-use Rattle.hd153108.specs.Hd153108.{Chip, Table, colour, overlay, colourAt, pixelPart}
+use Rattle.hd153108.specs.declared.State.{State}
+use Rattle.hd153108.specs.Hd153108.{Chip, Table, colour, overlay, shownTable, shownEntry, colourAt, pixelPart}
 use Rattle.hd153108_shown.specs.declared.Pick.{Pick}
 use Rattle.hd153108_shown.specs.declared.Pick.the-variants.{Colour, Overlay, Refused}
 
@@ -25,6 +26,15 @@ Inside c (Colour e) = 3 * e + 3 ≤ length (c .colours)
 Inside c (Overlay e) = 3 * e + 3 ≤ length (c .overlays)
 Inside c (Refused n) = Unit
 
+-- and it is the entry that shows, of the table that shows
+abbrev pub Which : ℕ → ℕ → ℕ → State → Pick → Type 0
+Which enable number byte s (Colour e) =
+    (shownTable enable number s ≡ colour) × (e ≡ shownEntry colour number byte s)
+Which enable number byte s (Overlay e) =
+    (shownTable enable number s ≡ overlay) × (e ≡ shownEntry overlay number byte s)
+Which enable number byte s (Refused n) = Unit
+
 pub record Picked (enable number byte : ℕ) (c : Chip) (p : Pick) : Type 0 where
   pub means : meaning c p ≡ pixelPart enable number byte c
   pub inside : Inside c p
+  pub which : Which enable number byte (c .state) p
