@@ -1,8 +1,16 @@
 -- The HD153108, chip A: source document 003, and document 01, "Chip A", where 003 leaves a choice ("ruling").
--- In 003's order: 1 Address Register, 2 Access to CLT/OLT, 3 Internal Registers, pixel selection (Table 4); then reset,
--- the ranges, when a call is refused, what the code answers; last the face, each call whole. A bit named bN in 003 is
--- line N here.
-use Prim.Native.Nat.{ℕ, zero, suc, _+_, _-_, _*_, _/_, _%_, _<_}
+-- In 003's order: 1 Address Register, 2 Access to CLT/OLT, 3 Internal Registers, pixel selection (Table 4); then
+-- reset, the ranges, when a call is refused, and the face, each call whole. A bit named bN in 003 is line N here.
+--
+-- How to read it (docs/NOTATION.md has more). Under a name stands its type, `f : A → B → C`, from an A and a B to a C,
+-- and then what it is, a clause for each case. `s .red` is the part red of s, `record { .. }` a value by its parts, and
+-- `data` names a type's values. `x ∷ y ∷ []` is a list, `l ++ m` one behind the other; `getD l i d` is element i of l,
+-- and d where there is none; `take n l` are its first n, `drop n l` the others. Numbers are 0, 1, 2 and so on without
+-- end; `a / b` is the quotient's floor, `a % b` the remainder, `2 ^ k` a power, `suc n` is n + 1, `zero` 0. `line n k`
+-- is bit k of n, 0 or 1. A call's outcome is `accepting value count chip`, with what it leaves; a refusal's row is
+-- `refusal when test`, and rows are tried in document 01's order. `abbrev`, `unfoldable`, `pub` and `use` are about
+-- proofs and files: read past them. What stands under "Not the chip" says nothing of the HD153108.
+use Prim.Native.Nat.{ℕ, zero, suc, _+_, _-_, _*_, _/_, _%_, _^_, _<_}
 use mathlib.Core.Path.{_≡_}
 use mathlib.Core.Bool.{Bool, true, false}
 use mathlib.Core.List.{List, [], _∷_, _++_}
@@ -26,15 +34,58 @@ pub record Chip : Type 0 where
   pub colours : List ℕ
   pub overlays : List ℕ
 
-abbrev pub chip : State → List ℕ → List ℕ → Chip
-chip s colours overlays = record { state = s; colours = colours; overlays = overlays }
-
--- ---- 1. Address Register
-
 -- the Color Lookup Table (CLT) and the Overlay Table (OLT)
 pub data Table : Type 0 where
   colour : Table
   overlay : Table
+
+-- ---- Not the chip: a chip with another part, the rest as it was
+
+abbrev pub chip : State → List ℕ → List ℕ → Chip
+chip s colours overlays = record { state = s; colours = colours; overlays = overlays }
+
+abbrev pub tableOf : Table → Chip → List ℕ
+tableOf colour c = c .colours
+tableOf overlay c = c .overlays
+
+abbrev pub withTable : Table → List ℕ → Chip → Chip
+withTable colour t c = chip (c .state) t (c .overlays)
+withTable overlay t c = chip (c .state) (c .colours) t
+
+abbrev pub withState : State → Chip → Chip
+withState s c = chip s (c .colours) (c .overlays)
+
+-- the state with another address, pointer, latched red and latched green
+abbrev pub port : State → ℕ → ℕ → ℕ → ℕ → State
+port s a p r g = record {
+  address = a;
+  pointer = p;
+  red = r;
+  green = g;
+  readmask = s .readmask;
+  blinkmask = s .blinkmask;
+  control = s .control;
+  clock = s .clock;
+}
+
+-- the state with other registers
+abbrev pub registers : State → ℕ → ℕ → ℕ → Clock → State
+registers s read blink control k = record {
+  address = s .address;
+  pointer = s .pointer;
+  red = s .red;
+  green = s .green;
+  readmask = read;
+  blinkmask = blink;
+  control = control;
+  clock = k;
+}
+
+-- the chip with another blink clock
+abbrev pub withClock : Clock → Chip → Chip
+withClock k c = let s = c .state in withState (registers s (s .readmask) (s .blinkmask) (s .control) k) c
+
+-- ---- 1. Address Register
 
 pub data Register : Type 0 where
   addressRegister : Register
@@ -72,31 +123,7 @@ abbrev pub size : Table → ℕ
 size colour = 256
 size overlay = 4
 
-abbrev pub tableOf : Table → Chip → List ℕ
-tableOf colour c = c .colours
-tableOf overlay c = c .overlays
-
-abbrev pub withTable : Table → List ℕ → Chip → Chip
-withTable colour t c = chip (c .state) t (c .overlays)
-withTable overlay t c = chip (c .state) (c .colours) t
-
-abbrev pub withState : State → Chip → Chip
-withState s c = chip s (c .colours) (c .overlays)
-
 -- ---- 2. Access to CLT/OLT
-
--- the state with another address, pointer, latched red and latched green
-abbrev pub port : State → ℕ → ℕ → ℕ → ℕ → State
-port s a p r g = record {
-  address = a;
-  pointer = p;
-  red = r;
-  green = g;
-  readmask = s .readmask;
-  blinkmask = s .blinkmask;
-  control = s .control;
-  clock = s .clock;
-}
 
 -- "When addresses are written .. A0-A1 are initialized to select R"; the latches are kept (ruling)
 abbrev pub addressed : ℕ → State → State
@@ -142,19 +169,6 @@ dataRead t c = getD (tableOf t c) (3 * entryAt t (c .state .address) + c .state 
 
 -- ---- 3. Internal Registers
 
--- the state with other registers
-abbrev pub registers : State → ℕ → ℕ → ℕ → Clock → State
-registers s read blink control k = record {
-  address = s .address;
-  pointer = s .pointer;
-  red = s .red;
-  green = s .green;
-  readmask = read;
-  blinkmask = blink;
-  control = control;
-  clock = k;
-}
-
 -- 1 and 2. What one line reads: 0 where its read mask bit is 1; in the off time 0 where its blink mask bit is 0
 -- (ruling); else as it is
 unfoldable pub lineReads : Bool → ℕ → ℕ → ℕ → ℕ
@@ -172,7 +186,7 @@ masked (suc w) off read blink x =
 -- 3. Overlay Control, Table 1.2: b0-b1 read mask and b2-b3 blink mask OLD0-OLD1, b6 enables CLT; b7, b5 and b4 are
 -- reserved, ignored on write and read as 0 (ruling)
 abbrev pub reservedBits : ℕ
-reservedBits = 128 + 32 + 16
+reservedBits = 2 ^ 7 + 2 ^ 5 + 2 ^ 4
 
 abbrev pub unreserved : ℕ → ℕ
 unreserved byte = bitAnd byte (255 - reservedBits)
@@ -201,10 +215,6 @@ restarted timing = clock timing 0
 -- each tick adds 1, modulo the period
 abbrev pub ticked : Clock → Clock
 ticked k = clock (k .timing) ((k .position + 1) % period (k .timing))
-
--- the chip with another blink clock
-abbrev pub withClock : Clock → Chip → Chip
-withClock k c = let s = c .state in withState (registers s (s .readmask) (s .blinkmask) (s .control) k) c
 
 -- ---- What an accepted access does to each register (Table 1.1, Table 3)
 
@@ -321,21 +331,6 @@ ranges c = stateRanges (c .state)
 abbrev pub outside : Chip → Bool
 outside c = fails (ranges c)
 
--- the same as facts, by name: the two tables say the same of a chip (proofs/InRange.antt)
-pub record InRange (c : Chip) : Type 0 where
-  pub colours : length (c .colours) ≡ 3 * size colour
-  pub overlays : length (c .overlays) ≡ 3 * size overlay
-  pub address : c .state .address < 256
-  pub pointer : c .state .pointer < 3
-  pub red : c .state .red < 16
-  pub green : c .state .green < 16
-  pub readmask : c .state .readmask < 256
-  pub blinkmask : c .state .blinkmask < 256
-  pub control : c .state .control < 256
-  pub nothing-reserved : bitAnd (c .state .control) reservedBits ≡ 0
-  pub timing : c .state .clock .timing < 256
-  pub position : c .state .clock .position < period (c .state .clock .timing)
-
 -- ---- The places of a look (request P5): registers, pointer, latches and blink position, then each table byte
 
 abbrev pub lookPlaces : Chip → List Block
@@ -392,7 +387,65 @@ abbrev pub pixelRefusals : ℕ → ℕ → Chip → List Row
 pixelRefusals enable number c =
     (lentLength when short c) ∷ (outOfRange when fails (pixelRanges enable number ++ ranges c)) ∷ []
 
--- ---- What the code is lent and answers
+-- ---- The face
+
+pub data Call : Type 0 where
+  -- select and byte
+  writes : ℕ → ℕ → Call
+  -- select
+  reads : ℕ → Call
+  resets : Call
+  ticks : Call
+  -- overlay enable, overlay number and byte
+  pixels : ℕ → ℕ → ℕ → Call
+  -- place
+  looks : ℕ → Call
+
+-- a reset reads no part of the state, so it is never refused
+abbrev pub refusals : Call → Chip → List Row
+refusals (writes select byte) c = writeRefusals select byte c
+refusals (reads select) c = readRefusals select c
+refusals resets c = []
+refusals ticks c = tickRefusals (c .state .clock)
+refusals (pixels enable number byte) c = pixelRefusals enable number c
+refusals (looks place) c = lookRefusals (short c) (outside c) (found (lookPlaces c) place)
+
+-- a reset keeps the tables, since it is lent none (ruling); a pixel answers the shown colour and changes nothing
+abbrev pub does : Call → Chip → Outcome Chip
+does (writes select byte) c = written (registerAt select) byte c
+does (reads select) c = answers (registerAt select) c
+does resets c = accepting 0 0 (withState zeroed c)
+does ticks c = accepting 0 0 (withClock (ticked (c .state .clock)) c)
+does (pixels enable number byte) c = accepting (colourOf (shown enable number byte c)) 0 c
+does (looks place) c = looked (found (lookPlaces c) place) c
+
+abbrev pub called : Call → Chip → Outcome Chip
+called k c = calledBy refusals does k c
+
+-- ---- Not the chip: the ranges as facts, which calls are looks, what the code is lent and answers
+
+-- what `lengths` and `ranges` ask, as facts by name (proofs/InRange.antt: they say the same of a chip)
+pub record InRange (c : Chip) : Type 0 where
+  pub colours : length (c .colours) ≡ 3 * size colour
+  pub overlays : length (c .overlays) ≡ 3 * size overlay
+  pub address : c .state .address < 256
+  pub pointer : c .state .pointer < 3
+  pub red : c .state .red < 16
+  pub green : c .state .green < 16
+  pub readmask : c .state .readmask < 256
+  pub blinkmask : c .state .blinkmask < 256
+  pub control : c .state .control < 256
+  pub nothing-reserved : bitAnd (c .state .control) reservedBits ≡ 0
+  pub timing : c .state .clock .timing < 256
+  pub position : c .state .clock .position < period (c .state .clock .timing)
+
+abbrev pub isLook : Call → Bool
+isLook (writes select byte) = false
+isLook (reads select) = false
+isLook resets = false
+isLook ticks = false
+isLook (pixels enable number byte) = false
+isLook (looks place) = true
 
 -- an answer that refuses, and one that accepts
 abbrev pub refuse : ℕ → State → Answer
@@ -422,46 +475,3 @@ clockOutcome refusal k = record { refusal = refusal; value = 0; count = 0; line 
 unfoldable pub pixelPart : ℕ → ℕ → ℕ → Chip → Outcome (List ℕ)
 pixelPart enable number byte c =
     answered (refusalOf (pixelRefusals enable number c)) [] (accepting 0 0 (shown enable number byte c))
-
--- ---- The face
-
-pub data Call : Type 0 where
-  -- select and byte
-  writes : ℕ → ℕ → Call
-  -- select
-  reads : ℕ → Call
-  resets : Call
-  ticks : Call
-  -- overlay enable, overlay number and byte
-  pixels : ℕ → ℕ → ℕ → Call
-  -- place
-  looks : ℕ → Call
-
-abbrev pub isLook : Call → Bool
-isLook (writes select byte) = false
-isLook (reads select) = false
-isLook resets = false
-isLook ticks = false
-isLook (pixels enable number byte) = false
-isLook (looks place) = true
-
--- a reset reads no part of the state, so it is never refused
-abbrev pub refusals : Call → Chip → List Row
-refusals (writes select byte) c = writeRefusals select byte c
-refusals (reads select) c = readRefusals select c
-refusals resets c = []
-refusals ticks c = tickRefusals (c .state .clock)
-refusals (pixels enable number byte) c = pixelRefusals enable number c
-refusals (looks place) c = lookRefusals (short c) (outside c) (found (lookPlaces c) place)
-
--- a reset keeps the tables, since it is lent none (ruling); a pixel answers the shown colour and changes nothing
-abbrev pub does : Call → Chip → Outcome Chip
-does (writes select byte) c = written (registerAt select) byte c
-does (reads select) c = answers (registerAt select) c
-does resets c = accepting 0 0 (withState zeroed c)
-does ticks c = accepting 0 0 (withClock (ticked (c .state .clock)) c)
-does (pixels enable number byte) c = accepting (colourOf (shown enable number byte c)) 0 c
-does (looks place) c = looked (found (lookPlaces c) place) c
-
-abbrev pub called : Call → Chip → Outcome Chip
-called k c = calledBy refusals does k c
