@@ -2,14 +2,15 @@
 -- In 003's order: 1 Address Register, 2 Access to CLT/OLT, 3 Internal Registers, pixel selection (Table 4); then
 -- reset, the ranges, when a call is refused, and the face, each call whole. A bit named bN in 003 is line N here.
 --
--- How to read it (docs/NOTATION.md has more). Under a name stands its type, `f : A → B → C`, from an A and a B to a C,
--- and then what it is, a clause for each case. `s .red` is the part red of s, `record { .. }` a value by its parts, and
--- `data` names a type's values. `x ∷ y ∷ []` is a list, `l ++ m` one behind the other; `getD l i d` is element i of l,
--- and d where there is none; `take n l` are its first n, `drop n l` the others. Numbers are 0, 1, 2 and so on without
--- end; `a / b` is the quotient's floor, `a % b` the remainder, `2 ^ k` a power, `suc n` is n + 1, `zero` 0. `line n k`
--- is bit k of n, 0 or 1. A call's outcome is `accepting value count chip`, with what it leaves; a refusal's row is
--- `refusal when test`, and rows are tried in document 01's order. `abbrev`, `unfoldable`, `pub` and `use` are about
--- proofs and files: read past them. What stands under "Not the chip" says nothing of the HD153108.
+-- How to read it (docs/NOTATION.md has more). Under a name stands its type, `f : A → B → C`, from an A and a B to a
+-- C, and then what it is, a clause for each case. `s .red` is the part red of s, `record { .. }` a value by its
+-- parts, and `data` names a type's values. `x ∷ y ∷ []` is a list, `l ++ m` one behind the other; `getD l i d` is
+-- element i of l, and d where there is none; `take n l` are its first n, `drop n l` the others. Numbers are 0, 1, 2
+-- and so on without end; `a / b` is the quotient's floor, `a % b` the remainder, `2 ^ k` a power, `suc n` is n + 1,
+-- `zero` 0. `line n k` is bit k of n, 0 or 1. A call's outcome is `accepting value count chip`, with what it leaves;
+-- a refusal's row is `refusal when test`, and rows are tried in document 01's order. `abbrev`, `unfoldable`, `pub`
+-- and `use` are about proofs and files: read past them. What stands under "Not the chip" says nothing of the
+-- HD153108.
 use Prim.Native.Nat.{ℕ, zero, suc, _+_, _-_, _*_, _/_, _%_, _^_, _<_}
 use mathlib.Core.Path.{_≡_}
 use mathlib.Core.Bool.{Bool, true, false}

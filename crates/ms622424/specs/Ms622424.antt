@@ -1,6 +1,17 @@
 -- The MS622424, 8,192 colours behind a write queue: source document 004, in its order, and document 01, "Chip B".
--- 004's words are "FIFO" for the queue and "RGB counter" for the counter. "ruling" marks what 004 leaves open.
--- How a caller keeps the chip, in which bytes, is not said here: ms622424_places says it.
+-- 004's words are "FIFO" for the queue and "RGB counter" for the counter. "ruling" marks what 004 leaves open. A bit
+-- named CBn or SBn in 004 is bit n here. How a caller keeps the chip, in which bytes, is not said here:
+-- ms622424_places says it.
+--
+-- How to read it (docs/NOTATION.md has more). Under a name stands its type, `f : A → B → C`, from an A and a B to a
+-- C, and then what it is, a clause for each case. `p .red` is the part red of p, `record { .. }` a value by its
+-- parts, and `data` names a type's values. `x ∷ y ∷ []` is a list, `l ++ m` one behind the other; `getD l i d` is
+-- element i of l, and d where there is none. Numbers are 0, 1, 2 and so on without end; `a / b` is the quotient's
+-- floor, `a % b` the remainder, `2 ^ k` a power, `suc n` is n + 1, `zero` 0. `line n k` is bit k of n, 0 or 1; `pick
+-- test a b` is a where the test holds, else b. A call's outcome is `accepting value count chip`, with what it leaves;
+-- a refusal's row is `refusal when test`, and rows are tried in document 01's order. `abbrev`, `unfoldable`, `pub`
+-- and `use` are about proofs and files: read past them. What stands under "Not the chip" says nothing of the
+-- MS622424.
 use Prim.Native.Nat.{ℕ, zero, suc, _+_, _*_, _/_, _%_, _^_, _<_, min, max}
 use mathlib.Core.Path.{_≡_}
 use mathlib.Core.Bool.{Bool, true, false, not, _&&_}
@@ -10,7 +21,7 @@ use lib.ListN.{length, getD}
 use Rattle.vocabulary.specs.Choice.{pick}
 use Rattle.vocabulary.specs.Range.{Bound, below, equal, tested, fails}
 use Rattle.vocabulary.specs.Refusal.{Row, _when_, lentLength, outOfRange, noAccess, readMode, stillWaiting}
-use Rattle.vocabulary.specs.Outcome.{Outcome, accepting, notReached}
+use Rattle.vocabulary.specs.Outcome.{Outcome, accepting, unreached, notReached}
 use Rattle.vocabulary.specs.Component.{Component, red, green, blue, componentAt, part, oneOf, put, colourWord}
 use Rattle.vocabulary.specs.Every.{every}
 use Rattle.vocabulary.specs.Line.{line}
@@ -42,7 +53,10 @@ pub record Chip : Type 0 where
   pub waiting : List Entry
   -- 8,192 entries of three bytes, red first
   pub map : List ℕ
+  -- (not the chip's: what the caller's 64 places say of themselves)
   pub lent : Lent
+
+-- ---- Not the chip: a chip with another part, the rest as it was
 
 abbrev pub chip : Port → Control → Ident → List Entry → List ℕ → Lent → Chip
 chip p d i waiting map lent = record {
@@ -54,7 +68,6 @@ chip p d i waiting map lent = record {
   lent = lent;
 }
 
--- a part of the chip anew
 abbrev pub withPort : Port → Chip → Chip
 withPort p c = chip p (c .control) (c .ident) (c .waiting) (c .map) (c .lent)
 
@@ -110,7 +123,7 @@ ranges c =
     below (c .port .counter) 3 ∷
     below (c .port .red) 256 ∷
     below (c .port .green) 256 ∷
-    below (c .control .command) 32 ∷
+    below (c .control .command) (2 ^ 5) ∷
     below (c .control .readmode) 2 ∷
     (identRanges (c .ident) ++ queueRanges c)
 
@@ -215,11 +228,11 @@ written addressLow byte c =
     accepting 0 0 (withPort (port (p .address / 256 * 256 + byte) 0 (p .red) (p .green)) c)
 written addressHigh byte c =
     let p = c .port in
-    accepting 0 0 (withPort (port (byte % 32 * 256 + p .address % 256) 0 (p .red) (p .green)) c)
+    accepting 0 0 (withPort (port (byte % 2 ^ 5 * 256 + p .address % 256) 0 (p .red) (p .green)) c)
 -- a full queue makes room first, whatever the counter
 written palette byte c = let m = roomMade c in accepting 0 (m .count) (taken (selected (c .port)) byte (m .after))
 -- command bits 5 to 7 are ignored (ruling)
-written command byte c = accepting 0 0 (withControl (control (byte % 32) (c .control .readmode)) c)
+written command byte c = accepting 0 0 (withControl (control (byte % 2 ^ 5) (c .control .readmode)) c)
 written status byte c = notReached c
 written buffer byte c = notReached c
 written revision byte c = notReached c
@@ -237,31 +250,33 @@ writeRefusals select byte c =
 
 -- ---- Internal Registers
 
--- a flag of the status register: active low
-abbrev pub activeLow : Bool → ℕ → ℕ
-activeLow flag bit = pick flag 0 bit
+-- a flag of the status register at its bit: active low
+abbrev pub activeLow : ℕ → Bool → ℕ
+activeLow bit flag = pick flag 0 (2 ^ bit)
 
 -- CB4: "at least half full or at least 7/8 full (eight or fewer empty locations left)"
 unfoldable pub mark : Control → ℕ
-mark d = pick (eqb (d .command / 16 % 2) 0) 32 56
+mark d = pick (eqb (line (d .command) 4) 0) 32 56
 
 -- SB0, SB1 the counter; SB2 empty; SB3 half or almost full; SB4 full; SB5 to SB7 are 0 (ruling); n entries wait
 unfoldable pub statusOf : ℕ → ℕ → Control → ℕ
 statusOf counter n d =
-    counter + activeLow (eqb n 0) 4 + activeLow (leb (mark d) n) 8 + activeLow (eqb n places) 16
+    counter + activeLow 2 (eqb n 0) + activeLow 3 (leb (mark d) n) + activeLow 4 (eqb n places)
 
 unfoldable pub statusByte : Chip → ℕ
 statusByte c = statusOf (c .port .counter) (length (c .waiting)) (c .control)
 
--- Color Buffer Register: red, then green; there is no blue
+-- Color Buffer Register: red, then green; there is no blue, and its read at blue is refused
 unfoldable pub bufferByte : Component → Port → ℕ
-bufferByte k p = oneOf k (p .red) (p .green) 0
+bufferByte red p = p .red
+bufferByte green p = p .green
+bufferByte blue p = unreached 0
 
 -- its red read increments the counter, its green read does not
 unfoldable pub bufferStepped : Component → Port → Port
 bufferStepped red p = stepped red p
 bufferStepped green p = p
-bufferStepped blue p = p
+bufferStepped blue p = unreached p
 
 -- ---- Truth Table, R/WB 1: a read
 
@@ -391,15 +406,6 @@ pub data Call : Type 0 where
   -- place
   looks : ℕ → Call
 
-abbrev pub isLook : Call → Bool
-isLook (writes select byte) = false
-isLook (reads select) = false
-isLook (blanks slots) = false
-isLook (pixels mode word) = false
-isLook (signals s) = false
-isLook resets = false
-isLook (looks place) = true
-
 abbrev pub refusals : Call → Chip → List Row
 refusals (writes select byte) c = writeRefusals select byte c
 refusals (reads select) c = readRefusals select c
@@ -421,7 +427,18 @@ does (looks place) c = looked (found (lookPlaces c) place) c
 abbrev pub called : Call → Chip → Outcome Chip
 called k c = calledBy refusals does k c
 
--- what is known past refusals 1 and 9 (`lengths` and `ranges`), as facts
+-- ---- Not the chip: which calls are looks, and the ranges as facts
+
+abbrev pub isLook : Call → Bool
+isLook (writes select byte) = false
+isLook (reads select) = false
+isLook (blanks slots) = false
+isLook (pixels mode word) = false
+isLook (signals s) = false
+isLook resets = false
+isLook (looks place) = true
+
+-- what `lengths` and `ranges` ask, as facts by name (proofs/InRange.antt: they say the same of a chip)
 pub record InRange (c : Chip) : Type 0 where
   pub address : c .port .address < entries
   pub counter : c .port .counter < 3

@@ -1,7 +1,17 @@
 -- Chip C, the palette port of the RGB640: source document 001, sections 9.1, 9.3, 9.4.1, 9.6 and 10.15 with Tables 22
 -- to 26, 29 and 30, and document 01, "Chip C". "Ruling" marks what they leave open.
--- From the top: the state, the ports, the index and its auto-increment, the palette, the order of transfers, the
--- spaces of the index, what a write does, what a read answers, the reset, what a call asks, and the face.
+-- From the top: the ports, the index and its auto-increment, the palette, the order of transfers, the spaces of the
+-- index, what a write does, what a read answers, the reset, what a call asks, and the face.
+--
+-- How to read it (docs/NOTATION.md has more). Under a name stands its type, `f : A → B → C`, from an A and a B to a
+-- C, and then what it is, a clause for each case. `s .red` is the part red of s, `record { .. }` a value by its
+-- parts, and `data` names a type's values. `x ∷ y ∷ []` is a list, `l ++ m` one behind the other; `getD l i d` is
+-- element i of l, and d where there is none. `(a, b)` is a pair, `p .0` and `p .1` its parts; `λ x. ..` is a rule for
+-- x. Numbers are 0, 1, 2 and so on without end; `a / b` is the quotient's floor, `a % b` the remainder. `line n k` is
+-- bit k of n, 0 or 1; `pick test a b` is a where the test holds, else b. A call's outcome is `accepting value count
+-- chip`, with what it leaves; a refusal's row is `refusal when test`, and rows are tried in document 01's order.
+-- `abbrev`, `unfoldable`, `pub` and `use` are about proofs and files: read past them. What stands under "Not the
+-- chip" says nothing of the RGB640.
 use Prim.Native.Nat.{ℕ, _+_, _-_, _*_, _/_, _%_, _<_}
 use mathlib.Core.Path.{_≡_}
 use mathlib.Core.Bool.{Bool, true, false, _&&_}
@@ -12,7 +22,7 @@ use Rattle.vocabulary.specs.Choice.{pick}
 use Rattle.vocabulary.specs.Line.{line}
 use Rattle.vocabulary.specs.Range.{Bound, below, equal, within, meets, fails}
 use Rattle.vocabulary.specs.Refusal.{Row, _when_, lentLength, outOfRange, noAccess, noIndex, refusalOf, standing}
-use Rattle.vocabulary.specs.Outcome.{Outcome, accepting}
+use Rattle.vocabulary.specs.Outcome.{Outcome, accepting, unreached}
 use Rattle.vocabulary.specs.Component.{Component, red, green, blue, oneOf, put}
 use Rattle.vocabulary.specs.Look.{Block, _has_, _holds_, found, lookRefusals, looked}
 use Rattle.vocabulary.specs.Face.{calledBy}
@@ -26,6 +36,7 @@ pub record Chip : Type 0 where
   pub state : State
   pub table : List ℕ
 
+-- ---- Not the chip: a state with another part, the rest as it was
 abbrev pub chip : State → List ℕ → Chip
 chip s t = record { state = s; table = t }
 
@@ -206,10 +217,10 @@ abbrev pub prefetched : List ℕ → State → State
 prefetched t s = spaceOf (s .index) .onIndex t s
 
 -- ---- What a write does
--- what a service makes of an access; what stands for one that is refused, here and below at `notServed`, is not reached
+-- what a service makes of an access, and what stands for one that is refused
 unfoldable pub served : {A B : Type 0} → Service A → (A → B) → B → B
-served (serves f) effect unreached = effect f
-served against effect unreached = unreached
+served (serves f) effect refused = effect f
+served against effect refused = unreached refused
 
 -- port 6, by the space that the index lies in
 abbrev pub dataWritten : Space → ℕ → Chip → Chip
@@ -222,7 +233,7 @@ wrote indexHigh b c =
     let s = c .state in
     chip (prefetched (c .table) (at s (b * 256 + s .index % 256) 0)) (c .table)
 wrote indexData b c = dataWritten (spaceOf (c .state .index)) b c
-wrote notServed b c = c
+wrote notServed b c = unreached c
 
 abbrev pub written : Register → ℕ → Chip → Outcome Chip
 written register b c = accepting 0 0 (wrote register b c)
@@ -236,7 +247,7 @@ unfoldable pub told : Register → Chip → ℕ × State
 told indexLow c = (c .state .index % 256, c .state)
 told indexHigh c = (c .state .index / 256, c .state)
 told indexData c = dataRead (spaceOf (c .state .index)) c
-told notServed c = (0, c .state)
+told notServed c = unreached (0, c .state)
 
 -- no read changes the table
 abbrev pub answers : Register → Chip → Outcome Chip
@@ -291,10 +302,6 @@ short c = fails (lengths c)
 abbrev pub outside : Chip → Bool
 outside c = fails (ranges c)
 
--- what write and read try first
-abbrev pub standingOf : ℕ → State → ℕ
-standingOf size s = refusalOf (standing (fails (whole size)) (fails (stateRanges s)))
-
 -- 3: the port is not 4 to 6
 abbrev pub noPort : Register → Bool
 noPort notServed = true
@@ -333,19 +340,6 @@ readRefusals port c = accessRefusals [] (registerAt port) (isAgainst (spaceOf (c
 abbrev pub resetRefusals : List Row
 resetRefusals = []
 
--- a call's answer, and what it left: that answer, with the table afterwards
-abbrev pub accept : ℕ → State → Answer
-accept v s = record { refusal = 0; value = v; state = s }
-
-abbrev pub acceptTold : ℕ × State → Answer
-acceptTold r = accept (r .0) (r .1)
-
-abbrev pub refuse : ℕ → State → Answer
-refuse n s = record { refusal = n; value = 0; state = s }
-
-abbrev pub outcome : Answer → List ℕ → Outcome Chip
-outcome a t = record { refusal = a .refusal; value = a .value; count = 0; line = 0; left = chip (a .state) t }
-
 -- ---- The face
 pub data Call : Type 0 where
   -- port and byte
@@ -355,12 +349,6 @@ pub data Call : Type 0 where
   resets : Call
   -- place
   looks : ℕ → Call
-
-abbrev pub isLook : Call → Bool
-isLook (writes port byte) = false
-isLook (reads port) = false
-isLook resets = false
-isLook (looks place) = true
 
 abbrev pub refusals : Call → Chip → List Row
 refusals (writes port byte) c = writeRefusals port byte c
@@ -377,7 +365,14 @@ does (looks place) c = looked (found (lookPlaces c) place) c
 abbrev pub called : Call → Chip → Outcome Chip
 called k c = calledBy refusals does k c
 
--- a chip with a whole table and a state in its ranges
+-- ---- Not the chip: which calls are looks, the ranges as facts, what the code answers
+abbrev pub isLook : Call → Bool
+isLook (writes port byte) = false
+isLook (reads port) = false
+isLook resets = false
+isLook (looks place) = true
+
+-- what `lengths` and `ranges` ask, as facts by name (proofs/InRange.antt: they say the same of a chip)
 pub record InRange (c : Chip) : Type 0 where
   pub table-whole : length (c .table) ≡ 3072
   pub index-low : c .state .index < 65536
@@ -388,3 +383,20 @@ pub record InRange (c : Chip) : Type 0 where
   pub fetched-green-low : c .state .fetched .green < 1024
   pub fetched-blue-low : c .state .fetched .blue < 1024
   pub update-low : c .state .update < 256
+
+-- what write and read try first
+abbrev pub standingOf : ℕ → State → ℕ
+standingOf size s = refusalOf (standing (fails (whole size)) (fails (stateRanges s)))
+
+-- a call's answer, and what it left: that answer, with the table afterwards
+abbrev pub accept : ℕ → State → Answer
+accept v s = record { refusal = 0; value = v; state = s }
+
+abbrev pub acceptTold : ℕ × State → Answer
+acceptTold r = accept (r .0) (r .1)
+
+abbrev pub refuse : ℕ → State → Answer
+refuse n s = record { refusal = n; value = 0; state = s }
+
+abbrev pub outcome : Answer → List ℕ → Outcome Chip
+outcome a t = record { refusal = a .refusal; value = a .value; count = 0; line = 0; left = chip (a .state) t }

@@ -1,6 +1,6 @@
--- A sheet of chip A: document 01, "The sheet and its calls". Lines key=value in a fixed order, lower-case hex, LF after
--- each. The grammar is `sheetOf`, from bytes to what the sheet says or the number of its first bad or missing line; the
--- writer is `write`. Both share one definition of a line's text.
+-- A sheet of chip A: document 01, "The sheet and its calls". Lines key=value in a fixed order, lower-case hex, LF
+-- after each. The grammar is `sheetOf`, from bytes to what the sheet says or the number of its first bad or missing
+-- line; the writer is `write`. Both share one definition of a line's text.
 use Prim.Native.Nat.{ℕ, zero, suc, _+_, _-_, _*_, _/_, _%_}
 use mathlib.Core.Path.{_≡_}
 use mathlib.Core.Bool.{Bool, true, false, _&&_, _||_}
@@ -95,8 +95,8 @@ starts (a ∷ p) (b ∷ t) = eqb a b && starts p t
 abbrev pub spelt : Key → List ℕ → ℕ
 spelt key t = number (width key) (length (front key)) t
 
--- A key's line at the start of a text: there, with its value, exactly where the text starts with the line of that value
--- and the key takes it (proofs/Lines.antt, `line-there` and `line-is`).
+-- A key's line at the start of a text: there, with its value, exactly where the text starts with the line of that
+-- value and the key takes it (proofs/Lines.antt, `line-there` and `line-is`).
 unfoldable pub lineOf : Key → List ℕ → Line
 lineOf key t = pick (starts (lineText key (spelt key t)) t && takes key (spelt key t)) (Has (spelt key t)) Missing
 

@@ -29,7 +29,8 @@ leads (x ∷ l) r = led x (leads l r)
 abbrev pub after : ℕ → ℕ → List Line
 after missing v = replicate missing Missing ++ Has v ∷ []
 
--- what the answer of line n makes of the sheet: it goes on behind the line, or it is refused, 8, with the line's number
+-- what the answer of line n makes of the sheet: it goes on behind the line, or it is refused, 8, with the line's
+-- number
 unfoldable pub onFrom : ℕ → Found → (ℕ → ℕ → ℕ → Reading) → Reading
 onFrom n (At k v next) f = f k v next
 onFrom n Bad f = bad n

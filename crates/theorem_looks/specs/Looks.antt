@@ -1,7 +1,7 @@
 -- LOOKS CAN'T BE NOTICED (request P5): "Two runs of accepted or refused calls that differ only in looks put in
--- anywhere, the panel's call list being the same, give the panel's calls the same answers and end in the same state and
--- tables; looks themselves may differ with when they are made." That sentence is `Unnoticed` of Run.antt, of any chip;
--- here it is of the three. Below it stand two uses, on chip A.
+-- anywhere, the panel's call list being the same, give the panel's calls the same answers and end in the same state
+-- and tables; looks themselves may differ with when they are made." That sentence is `Unnoticed` of Run.antt, of any
+-- chip; here it is of the three. Below it stand two uses, on chip A.
 use Prim.Native.Nat.{ℕ, zero, suc, _<_}
 use mathlib.Core.Path.{_≡_}
 use mathlib.Core.Bool.{true}

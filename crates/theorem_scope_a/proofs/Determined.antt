@@ -1,8 +1,7 @@
 -- The rows leave nothing open: a chip that meets them is the HD153108, in every call on every chip. Assumes nothing.
 use Prim.Native.Nat.{ℕ, zero, suc, _+_, _-_, _<_, _≤_}
-use mathlib.Core.Path.{_≡_, refl, sym, subst, _∙_}
-use mathlib.Core.Bool.{true, false}
-use mathlib.Core.List.{List, []}
+use mathlib.Core.Path.{_≡_, refl, sym, _∙_}
+use mathlib.Core.List.{List}
 use native.Mathlib.Omega.{arith}
 use borrow.Author.Tests.{ltb-true, ltb-false, le-leb, leb-true}
 use lib.Dec.{ltb}
@@ -11,7 +10,8 @@ use Rattle.vocabulary.specs.Range.{meets, fails, within as row}
 use Rattle.vocabulary.proofs.Choice.{cases}
 use Rattle.vocabulary.proofs.Outcome.{determined}
 use Rattle.vocabulary.proofs.Range.{clash, passes-holds, holds-passes, meets-holds, holds-meets}
-use Rattle.hd153108.specs.Hd153108.{Chip, short, outside, clockRanges, pixelRanges, Call, writes, reads, resets, ticks}
+use Rattle.hd153108.specs.Hd153108.{Chip, short, outside, clockRanges, pixelRanges, Call, writes, reads, resets}
+use Rattle.hd153108.specs.Hd153108.{ticks}
 use Rattle.hd153108.specs.Hd153108.{pixels, looks, called}
 use Rattle.theorem_scope_a.specs.Scope.{Sizes, ClockRanges, Ranges, Good, Asks, Data, Accesses, Scope}
 use Rattle.theorem_scope_a.proofs.Good.{sizes-hold, hold-sizes, ranges-hold, hold-ranges, clock-holds}
@@ -49,7 +49,8 @@ module _ {f g : Call → Chip → Outcome Chip} (c : Chip) (select : ℕ) (entry
 
   data-read-same : f (reads select) c ≡ g (reads select) c
   data-read-same =
-      three (c .state .pointer) p (λ e. determined (A .red-read e) (B .red-read e)) (λ e. determined (A .green-read e) (B .green-read e))
+      three (c .state .pointer) p (λ e. determined (A .red-read e) (B .red-read e))
+      (λ e. determined (A .green-read e) (B .green-read e))
       (λ e. determined (A .blue-read e) (B .blue-read e))
 
 module _ {f g : Call → Chip → Outcome Chip} (c : Chip) (good : Good c) (A : Accesses f c) (B : Accesses g c) where

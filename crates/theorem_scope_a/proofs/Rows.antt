@@ -1,26 +1,26 @@
 -- The rows of a good chip: writes and reads, by select. Assumes nothing.
-use Prim.Native.Nat.{ℕ, suc, _+_, _*_, _<_, _≤_}
+use Prim.Native.Nat.{ℕ, _+_, _*_, _<_, _≤_}
 use mathlib.Core.Path.{_≡_, refl, sym, ap, _∙_}
-use mathlib.Core.Bool.{true, false}
+use mathlib.Core.Bool.{true}
 use mathlib.Core.List.{[], _∷_}
 use native.Mathlib.Omega.{arith}
 use native.Mathlib.Nat.{add-zero}
-use lib.ListN.{getD, List·getD-eq-default}
+use lib.ListN.{getD}
 use Rattle.vocabulary.specs.Component.{Component, componentAt, put, red, green, blue}
 use Rattle.vocabulary.specs.Face.{calledBy}
 use Rattle.vocabulary.specs.Outcome.{Outcome, accepting, refusing}
 use Rattle.vocabulary.specs.Refusal.{lentLength, outOfRange}
 use Rattle.vocabulary.proofs.Call.{stops}
 use Rattle.vocabulary.proofs.Range.{not-fails}
-use Rattle.hd153108.specs.Hd153108.{Chip, Table, colour, overlay, dataOf, registerAt, noRegister, entryAt, next}
+use Rattle.hd153108.specs.Hd153108.{Chip, Table, dataOf, registerAt, noRegister, entryAt, next}
 use Rattle.hd153108.specs.Hd153108.{tableOf, withTable, stepped, written, answers, InRange, writeRefusals}
 use Rattle.hd153108.specs.Hd153108.{Call, writes, reads, does, called}
 use Rattle.hd153108.proofs.InRange.{not-short}
 use Rattle.hd153108.proofs.Access.{Access, writing, reading, selectOf, Served, access-goes, no-access}
 use Rattle.hd153108.proofs.Access.{is-red, is-green, is-blue}
 use Rattle.hd153108.proofs.Data as D
-use Rattle.theorem_scope_a.specs.Scope.{Good, Data, Register, having, controlOf, at}
-use Rattle.theorem_scope_a.proofs.Good.{good-in-range, control-lines}
+use Rattle.theorem_scope_a.specs.Scope.{Good, Data, Register, at}
+use Rattle.theorem_scope_a.proofs.Good.{good-in-range}
 
 module _ (c : Chip) (g : Good c) where
   range : InRange c

@@ -1,5 +1,5 @@
 -- The HD153108 meets every row. Assumes nothing.
-use Prim.Native.Nat.{ℕ, zero, suc, _+_, _*_, _<_, _≤_}
+use Prim.Native.Nat.{ℕ, zero, suc, _+_, _<_}
 use mathlib.Core.Path.{_≡_, refl, sym, ap, _∙_}
 use mathlib.Core.Bool.{true, false, _&&_, _||_}
 use mathlib.Core.List.{List, [], _∷_}
@@ -11,23 +11,23 @@ use lib.ListN.{length, getD, List·getD-eq-default}
 use Rattle.vocabulary.specs.Choice.{pick}
 use Rattle.vocabulary.specs.Face.{calledBy}
 use Rattle.vocabulary.specs.Line.{line}
-use Rattle.vocabulary.specs.Outcome.{Outcome, accepting, refusing}
+use Rattle.vocabulary.specs.Outcome.{accepting, refusing}
 use Rattle.vocabulary.specs.Range.{below}
 use Rattle.vocabulary.specs.Refusal.{lentLength, outOfRange, due}
 use Rattle.vocabulary.proofs.Call.{stops, goes-on}
 use Rattle.vocabulary.proofs.Range.{not-fails, holds-passes, fails-right}
-use Rattle.hd153108.specs.Hd153108.{Chip, Table, colour, overlay, reserved, registerMapping, registerAt, noRegister, short}
-use Rattle.hd153108.specs.Hd153108.{tableOf, colourAt, overlayNumber, shownTable}
+use Rattle.hd153108.specs.Hd153108.{Chip, Table, colour, overlay, reserved, registerMapping, registerAt, noRegister}
+use Rattle.hd153108.specs.Hd153108.{short, tableOf, colourAt, overlayNumber, shownTable}
 use Rattle.hd153108.specs.Hd153108.{selected, shownEntry, shown, colourOf, written, answers, outside, ranges}
 use Rattle.hd153108.specs.Hd153108.{tickRefusals, pixelRanges, pixelRefusals, Call, writes, reads, resets, ticks}
-use Rattle.hd153108.specs.Hd153108.{pixels, looks, refusals, does, called}
+use Rattle.hd153108.specs.Hd153108.{pixels, looks, refusals, called}
 use Rattle.hd153108.proofs.InRange.{not-short}
 use Rattle.hd153108.proofs.Access.{writing, reading}
 use Rattle.hd153108.proofs.Captions.{captions}
 use Rattle.hd153108.proofs.Data.{byte-at}
 use Rattle.hd153108.proofs.Look.{look-state, look-overlay, look-colour, look-nowhere}
 use Rattle.theorem_scope_a.specs.Scope as S
-use Rattle.theorem_scope_a.specs.Scope.{Sizes, ClockRanges, Ranges, Good, Asks, Accesses, Scope, numberSeen}
+use Rattle.theorem_scope_a.specs.Scope.{Sizes, Ranges, Good, Asks, Accesses, Scope}
 use Rattle.theorem_scope_a.proofs.Good.{sizes-hold, hold-sizes, clock-holds, holds-clock, hold-ranges}
 use Rattle.theorem_scope_a.proofs.Good.{good-in-range, control-lines}
 use Rattle.theorem_scope_a.proofs.Pixel.{byte-seen, number-seen}

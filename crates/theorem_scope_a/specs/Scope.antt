@@ -1,10 +1,10 @@
 -- WHAT DOCUMENT 01 SAYS OF CHIP A, in its order, words and numbers, as rows: a call, and what it answers and leaves.
--- It is said of any `called`. Of Hd153108.antt it takes the names of the chip's parts and of its calls, and nothing that
--- they do: who ticks these rows against document 01 need not believe that file. The HD153108 meets them (`scope`), and
--- any chip that meets them is the HD153108 (`scope-determines`), refusals included.
+-- It is said of any `called`. Of Hd153108.antt it takes the names of the chip's parts and of its calls, and nothing
+-- that they do: who ticks these rows against document 01 need not believe that file. The HD153108 meets them
+-- (`scope`), and any chip that meets them is the HD153108 (`scope-determines`), refusals included.
 use Prim.Native.Nat.{ℕ, zero, suc, _+_, _*_, _/_, _%_, _^_, _<_, _≤_}
 use mathlib.Core.Path.{_≡_}
-use mathlib.Core.Bool.{Bool, _&&_, _||_}
+use mathlib.Core.Bool.{_&&_, _||_}
 use mathlib.Core.List.{List, [], _∷_}
 use lib.Dec.{eqb, leb}
 use lib.ListN.{length, getD, set}
