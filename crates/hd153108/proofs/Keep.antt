@@ -24,7 +24,7 @@ use Rattle.hd153108.specs.Hd153108.{readMask, blinkMask, overlayControl,
 use Rattle.hd153108.specs.Hd153108.{withTable, withState, next, latched, stepped, stored, dataWrite}
 use Rattle.hd153108.specs.Hd153108.{unreserved, reservedBits, period, ticked, written, answers, InRange, ranges}
 use Rattle.hd153108.specs.Hd153108.{lengths, accessRefusals, Call, writes, reads, resets, ticks, pixels}
-use Rattle.hd153108.specs.Hd153108.{looks, isLook, refusals, does, called}
+use Rattle.hd153108.specs.Hd153108.{looks, isPixel, isLook, refusals, does, called, SameTables}
 use Rattle.hd153108.proofs.InRange.{lengths-hold}
 
 -- ---- What is written to the overlay control
@@ -134,10 +134,6 @@ called-keeps-range k c g = called-holds refusals does k c InRange g (does-keeps-
 
 -- ---- An accepted call answers no refusal, and a read changes no table
 
-pub record SameTables (c d : Chip) : Type 0 where
-  pub colours : d .colours ≡ c .colours
-  pub overlays : d .overlays ≡ c .overlays
-
 written-accepts : (r : Register) (byte : ℕ) (c : Chip) → written r byte c .refusal ≡ 0
 unfolding written
 written-accepts addressRegister byte c = refl
@@ -181,14 +177,6 @@ unfolding answers
 register-reads-stay c = (refl, refl, refl, refl)
 
 -- ---- A pixel leaves its chip, and so does a look: no other call can tell whether one was asked for
-
-abbrev pub isPixel : Call → Bool
-isPixel (writes select byte) = false
-isPixel (reads select) = false
-isPixel resets = false
-isPixel ticks = false
-isPixel (pixels enable number byte) = true
-isPixel (looks place) = false
 
 pixel-stays : (k : Call) (c : Chip) → isPixel k ≡ true → called k c .left ≡ c
 pixel-stays (pixels enable number byte) c e = called-holds refusals does _ c (λ (d : Chip). d ≡ c) refl (λ h. refl)

@@ -8,17 +8,7 @@ use Rattle.vocabulary.specs.Outcome.{Outcome, accepting, answeredAt, answered}
 use Rattle.vocabulary.specs.Face.{calledBy}
 use Rattle.hd153108.specs.declared.Clock.{Clock}
 use Rattle.hd153108.specs.Hd153108.{Chip, withClock, ticked, tickRefusals, tick, shown, colourOf, pixelRefusals}
-use Rattle.hd153108.specs.Hd153108.{pixelPart, ticks, pixels, called}
-
--- a clock's outcome, with the clock put back into its chip
-abbrev pub putBack : Outcome Clock → Chip → Outcome Chip
-putBack o c = record {
-  refusal = o .refusal;
-  value = o .value;
-  count = o .count;
-  line = o .line;
-  left = withClock (o .left) c;
-}
+use Rattle.hd153108.specs.Hd153108.{pixelPart, putBack, told, ticks, pixels, called}
 
 clock-either : (n : ℕ) (k : Clock) (c : Chip)
     → answered n c (accepting 0 0 (withClock k c)) ≡ putBack (answered n (c .state .clock) (accepting 0 0 k)) c
@@ -29,10 +19,6 @@ clock-either (suc n) k c = refl
 pub tick-lent : (c : Chip) → called ticks c ≡ putBack (tick (c .state .clock)) c
 unfolding calledBy tick
 tick-lent c = clock-either (refusalOf (tickRefusals (c .state .clock))) (ticked (c .state .clock)) c
-
--- a pixel's outcome, of the bytes that are handed back
-abbrev pub told : Outcome (List ℕ) → Chip → Outcome Chip
-told o c = record { refusal = o .refusal; value = colourOf (o .left); count = o .count; line = o .line; left = c }
 
 bytes-either : (n : ℕ) (bytes : List ℕ) (c : Chip)
     → answered n c (accepting (colourOf bytes) 0 c) ≡ told (answered n [] (accepting 0 0 bytes)) c

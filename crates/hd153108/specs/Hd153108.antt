@@ -440,6 +440,15 @@ pub record InRange (c : Chip) : Type 0 where
   pub timing : c .state .clock .timing < 256
   pub position : c .state .clock .position < period (c .state .clock .timing)
 
+-- which calls are pixels, and which are looks
+abbrev pub isPixel : Call → Bool
+isPixel (writes select byte) = false
+isPixel (reads select) = false
+isPixel resets = false
+isPixel ticks = false
+isPixel (pixels enable number byte) = true
+isPixel (looks place) = false
+
 abbrev pub isLook : Call → Bool
 isLook (writes select byte) = false
 isLook (reads select) = false
@@ -476,3 +485,22 @@ clockOutcome refusal k = record { refusal = refusal; value = 0; count = 0; line 
 unfoldable pub pixelPart : ℕ → ℕ → ℕ → Chip → Outcome (List ℕ)
 pixelPart enable number byte c =
     answered (refusalOf (pixelRefusals enable number c)) [] (accepting 0 0 (shown enable number byte c))
+
+-- the chip's outcomes of those two: with the clock put back into its chip, ..
+abbrev pub putBack : Outcome Clock → Chip → Outcome Chip
+putBack o c = record {
+  refusal = o .refusal;
+  value = o .value;
+  count = o .count;
+  line = o .line;
+  left = withClock (o .left) c;
+}
+
+-- .. and with the bytes told as a colour
+abbrev pub told : Outcome (List ℕ) → Chip → Outcome Chip
+told o c = record { refusal = o .refusal; value = colourOf (o .left); count = o .count; line = o .line; left = c }
+
+-- two chips with equal tables
+pub record SameTables (c d : Chip) : Type 0 where
+  pub colours : d .colours ≡ c .colours
+  pub overlays : d .overlays ≡ c .overlays

@@ -16,10 +16,10 @@ use Rattle.vocabulary.proofs.Call.{tried-first, stops, goes-on}
 use Rattle.hd153108.specs.declared.State.{State}
 use Rattle.hd153108.specs.Hd153108.{Chip, chip, Table, colour, overlay, tableOf, isOff, masked, selected, shownTable}
 use Rattle.hd153108.specs.Hd153108.{shownEntry, colourAt, shown, ranges, short, outside, InRange, pixelRanges}
-use Rattle.hd153108.specs.Hd153108.{pixelRefusals, pixelPart, pixels, called}
+use Rattle.hd153108.specs.Hd153108.{pixelRefusals, pixelPart, told, pixels, called}
 use Rattle.hd153108.proofs.InRange.{not-short, pixel-clear}
 use Rattle.hd153108.proofs.Access.{tried, known}
-use Rattle.hd153108.proofs.Lent.{told, pixel-lent}
+use Rattle.hd153108.proofs.Lent.{pixel-lent}
 use Rattle.hd153108.proofs.Masks.{masked-fits}
 use Rattle.hd153108_shown.specs.declared.Pick.{Pick}
 use Rattle.hd153108_shown.specs.declared.Pick.the-variants.{Colour, Overlay, Refused}

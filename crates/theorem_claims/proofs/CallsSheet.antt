@@ -15,9 +15,9 @@ use Rattle.sheet.specs.declared.Answer.the-variants.{Done, Refused}
 use Rattle.sheet.specs.Sheet.{sheetOf, badLine, writeRefusals, write, outcome, Heard, heard, telling}
 use Rattle.calls.specs.Calls.{callRefusals, sheetToCalls}
 use Rattle.vocabulary.specs.Judged.{Judged}
-use Rattle.theorem_claims.specs.Determined.{Determined, Numbered}
+use Rattle.theorem_claims.specs.Determined.{Determined, Numbered, Fills, Tells, Counts}
 use Rattle.vocabulary.proofs.Judged.{judged}
-use Rattle.theorem_claims.proofs.Counts.{Counts, text-counts, calls-count}
+use Rattle.theorem_claims.proofs.Counts.{text-counts, calls-count}
 use Rattle.theorem_claims.proofs.Determined.{determined, determined-of, number-determined}
 
 -- ---- judged
@@ -76,16 +76,10 @@ numbered d h (Done count) out e = tt
 numbered d h (Refused n line) out e =
     λ z. h (ap (λ (o : Outcome (List ℕ)). o .refusal) (sym e) ∙ z) (ap (λ (o : Outcome (List ℕ)). o .count) (sym e))
 
-abbrev pub Fills : Outcome (List ℕ) → Type 0
-Fills d = Determined {A = Answer × List ℕ} (λ x. outcome (x .0) (x .1)) d
-
 fills : (d : Outcome (List ℕ)) → Counts d → Fills d
 fills d h a b ha hb e f =
     determined-of {A = Answer × List ℕ} (λ x. outcome (x .0) (x .1)) sawOf (λ x. Numbered (x .0))
     (λ x n. saw-back (x .0) (x .1) n) d a b (numbered d h (a .0) (a .1) e) (numbered d h (b .0) (b .1) f) e f
-
-abbrev pub Tells : Outcome (List ℕ) → Type 0
-Tells d = Determined {A = ℕ × List ℕ} (λ x. heard (x .0) (x .1)) (telling d)
 
 both : {A B : Type 0} {a c : A} {b d : B} → a ≡ c → b ≡ d → _≡_ {A = A × B} (a, b) (c, d)
 both e f = cc

@@ -17,10 +17,7 @@ use Rattle.sheet.specs.Sheet.{keyAt, front, lineText, values, textFrom, Reading
 use Rattle.sheet.specs.Sheet.{pasted, write}
 use Rattle.calls.specs.Calls.{Call, registerCalls, callsOf, callBytes, callRefusals, sheetToCalls}
 use Rattle.theorem_load.proofs.Grammar.{Registers, good-lines}
-
--- an accepted call counts something
-abbrev pub Counts : Outcome (List ℕ) → Type 0
-Counts d = d .refusal ≡ 0 → d .count ≡ 0 → ⊥
+use Rattle.theorem_claims.specs.Determined.{Counts}
 
 -- the writer's text has bytes
 pub text-counts : (a : Chip) (out : List ℕ) → Counts (write a out)

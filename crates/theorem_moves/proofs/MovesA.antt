@@ -9,8 +9,7 @@ use Rattle.hd153108.specs.declared.State.{State}
 use Rattle.hd153108.specs.Hd153108.{Chip, Register, addressRegister, dataOf, reserved, readMask, blinkMask, registerAt}
 use Rattle.hd153108.specs.Hd153108.{overlayControl, blinkTiming, Table, colour, overlay}
 use Rattle.hd153108.specs.Hd153108.{stepped, latched, stored, dataWrite, written, answers, withState, withTable}
-use Rattle.hd153108.specs.Hd153108.{writes, reads, refusals, does, called}
-use Rattle.hd153108.proofs.Keep.{SameTables}
+use Rattle.hd153108.specs.Hd153108.{writes, reads, refusals, does, called, SameTables}
 use Rattle.theorem_moves.specs.MovesA.{WriteLeaves, ReadLeaves}
 
 -- ---- as it was
