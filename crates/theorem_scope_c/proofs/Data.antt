@@ -50,8 +50,8 @@ module _ (c : Chip) (r : InRange c) (e : ℕ) (l : e < 1024) where
       red-write = λ b h p. taken b h _ (rw (sym i) (red-latched s (c .table) b (sym (ten-eight b)) p));
       green-write = λ b h p. taken b h _ (rw (sym i) (green-latched s (c .table) b (sym (ten-eight b)) p));
       blue-write-steps = λ b h p u.
-        let j = next-index 0x4000 e refl l in
-        blue b h p _ (rw (sym j, sym i) (sym (steps writing _ s (write-enabled _ u))));
+          let j = next-index 0x4000 e refl l in
+          blue b h p _ (rw (sym j, sym i) (sym (steps writing _ s (write-enabled _ u))));
       blue-write-stays = λ b h p u. blue b h p _ (rw (sym i) (sym (stays writing _ s (write-disabled _ u))));
     }
 
@@ -73,8 +73,8 @@ module _ (c : Chip) (r : InRange c) (e : ℕ) (l : e < 1024) where
       red-read = λ p. told _ (red-told s (c .table) p (rw (sym i) refl));
       green-read = λ p. told _ (green-told s (c .table) p (rw (sym i) refl));
       blue-read-steps = λ p u.
-        let o : (0x8000 + (e + 1) % 1024) % 1024 ≡ (e + 1) % 1024 = omega arith in
-        let j : next (s .index) ≡ 0x8000 + (e + 1) % 1024 = ap next i ∙ next-index 0x8000 e refl l in
-        blue-read p _ (rw (j, o) refl ∙ sym (steps reading _ s (read-enabled _ u)));
+          let o : (0x8000 + (e + 1) % 1024) % 1024 ≡ (e + 1) % 1024 = omega arith in
+          let j : next (s .index) ≡ 0x8000 + (e + 1) % 1024 = ap next i ∙ next-index 0x8000 e refl l in
+          blue-read p _ (rw (j, o) refl ∙ sym (steps reading _ s (read-enabled _ u)));
       blue-read-stays = λ p u. blue-read p _ (rw (sym i) (sym (stays reading _ s (read-disabled _ u))));
     }

@@ -96,9 +96,10 @@ module _ (c : Chip) (r : InRange c) where
   other-port : (port b : ℕ) → ¬ FromTo 4 6 port → b < 256
       → (called (writes port b) c ≡ refusing 3 0 c) × (called (reads port) c ≡ refusing 3 0 c)
   unfolding calledBy
-  other-port port b off h =
-      (sym (no-port (below b 256 ∷ []) (registerAt port) _ c _ r (byte-passes c r b h) (not-served port off)),
-      sym (no-port [] (registerAt port) _ c _ r (state-passes c r) (not-served port off)))
+  other-port port b off h = (
+    sym (no-port (below b 256 ∷ []) (registerAt port) _ c _ r (byte-passes c r b h) (not-served port off)),
+    sym (no-port [] (registerAt port) _ c _ r (state-passes c r) (not-served port off)),
+  )
 
   look-place : (i : ℕ) → i < 8 → called (looks i) c ≡ accepting (getD (places (c .state)) i 0) 0 c
   look-place zero h = look-state c r .0
