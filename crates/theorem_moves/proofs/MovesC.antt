@@ -6,7 +6,7 @@ use native.Mathlib.Omega.{arith}
 use Rattle.vocabulary.proofs.Choice.{cases, picks-first, picks-second}
 use Rattle.vocabulary.proofs.Face.{called-holds}
 use Rattle.rgb640.specs.declared.State.{State}
-use Rattle.rgb640.specs.Rgb640.{Chip, chip, at, next, increments, Direction, writing, reading, state, Transfer}
+use Rattle.rgb640.specs.Rgb640.{Chip, chip, at, next, increments, Direction, writing, reading, Transfer}
 use Rattle.rgb640.specs.Rgb640.{threeBytes, follows, restarted, stepped, taken, paletteTaken, paletteTold}
 use Rattle.rgb640.specs.Rgb640.{fetchesNothing, fetchesEntry, Space, updateControl, paletteWrite, paletteRead, nowhere}
 use Rattle.rgb640.specs.Rgb640.{spaceOf, Register, indexLow, indexHigh, indexData, notServed, registerAt, served}
@@ -64,7 +64,8 @@ taken-leaves order b c =
 palette-after : (c d : Chip) (n : State) → PaletteAlone c d → n ≡ at (d .state) (n .index) (n .place)
     → PaletteAlone c (chip n (d .table))
 palette-after c d n e h =
-    let same : n .update ≡ c .state .update = ap (λ (m : State). m .update) h ∙ ap (λ (x : Chip). x .state .update) e in
+    let same : n .update ≡ c .state .update =
+    ap (λ (m : State). m .update) h ∙ ap (λ (x : Chip). x .state .update) e in
     let copy : n .fetched ≡ c .state .fetched =
     ap (λ (m : State). m .fetched) h ∙ ap (λ (x : Chip). x .state .fetched) e in
     rw (sym same, sym copy)

@@ -4,8 +4,7 @@ use mathlib.Core.Path.{_≡_, refl, sym, ap, _∙_}
 use mathlib.Core.List.{List}
 use native.Mathlib.Omega.{arith}
 use Rattle.vocabulary.specs.Component.{put}
-use Rattle.vocabulary.specs.Line.{line}
-use Rattle.vocabulary.specs.Outcome.{Outcome, accepting}
+use Rattle.vocabulary.specs.Outcome.{accepting}
 use Rattle.expand.proofs.Width.{ten-eight}
 use Rattle.rgb640.specs.declared.State.{State}
 use Rattle.rgb640.specs.declared.Answer.{Answer}
@@ -16,7 +15,7 @@ use Rattle.rgb640.proofs.Index.{space-write, space-read}
 use Rattle.rgb640.proofs.Order.{red-latched, green-latched, blue-stored, red-told, green-told, blue-told, steps, stays}
 use Rattle.rgb640.proofs.Order.{write-enabled, write-disabled, read-enabled, read-disabled}
 use Rattle.rgb640.proofs.Access.{write-data, read-data}
-use Rattle.theorem_scope_c.specs.Scope.{Write, Read, at, fetching, withTable, storing, entryOf, expanded}
+use Rattle.theorem_scope_c.specs.Scope.{Write, Read, storing, expanded}
 
 -- the offset's step, from a space's first index on
 next-index : (first e : ℕ) → first % 1024 ≡ 0 → e < 1024 → next (first + e) ≡ first + (e + 1) % 1024

@@ -8,12 +8,12 @@ use borrow.Author.Tests.{ltb-true, ltb-false, leb-true, le-leb, eqb-true, eqb-fa
 use lib.Dec.{ltb, leb, eqb}
 use Rattle.vocabulary.specs.Line.{line}
 use Rattle.vocabulary.specs.Outcome.{Outcome}
-use Rattle.vocabulary.specs.Range.{Holds, meets}
+use Rattle.vocabulary.specs.Range.{meets}
 use Rattle.vocabulary.proofs.Choice.{cases}
 use Rattle.vocabulary.proofs.Range.{clash, both, pair, meets-holds, holds-meets}
 use Rattle.rgb640.specs.Rgb640.{Chip, lengths, ranges, Call, writes, reads, resets, looks, called}
-use Rattle.theorem_scope_c.specs.Scope.{Sizes, Ranges, Good, Asks, FromTo, Accesses, Scope}
-use Rattle.theorem_scope_c.proofs.Scope.{sizes-hold, ranges-hold, scope}
+use Rattle.theorem_scope_c.specs.Scope.{Ranges, Good, Asks, FromTo, Accesses, Scope}
+use Rattle.theorem_scope_c.proofs.Scope.{sizes-hold, ranges-hold, ranges-given, scope}
 
 -- ---- Which row is a number's
 module _ {A : Type 0} where
@@ -137,7 +137,9 @@ asked k c a =
     let z = sizes-hold c (meets-holds (lengths c) t) in
     cases (meets (ranges c))
     (λ u. good-fixed c (record { sizes = z; ranges = ranges-hold c (meets-holds (ranges c) u) }) k a)
-    (λ u. fixed (λ f m. m .nine k c a z (λ r. let h : Holds (ranges c) = search in clash (sym (holds-meets _ h) ∙ u)))))
+    (λ u.
+    let bad : ¬ Ranges (c .state) = λ r. clash (sym (holds-meets (ranges c) (ranges-given c r)) ∙ u) in
+    fixed (λ f m. m .nine k c a z bad)))
     (λ t. fixed (λ f m. m .one k c a (λ z. clash (sym (holds-meets (lengths c) (z .table, tt)) ∙ t))))
 
 call-fixed : (k : Call) (c : Chip) → Fixed k c

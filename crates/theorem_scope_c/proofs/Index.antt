@@ -2,7 +2,7 @@
 use Prim.Native.Nat.{ℕ, _+_, _*_, _%_, _<_}
 use mathlib.Core.Path.{_≡_, refl, sym, ap, _∙_}
 use native.Mathlib.Omega.{arith}
-use Rattle.vocabulary.specs.Outcome.{Outcome, accepting}
+use Rattle.vocabulary.specs.Outcome.{accepting}
 use Rattle.rgb640.specs.declared.State.{State}
 use Rattle.rgb640.specs.Rgb640.{Chip, chip, InRange, entry, registerAt, wrote, told, writes, called}
 use Rattle.rgb640.proofs.Index.{fetches-entry, fetches-nothing}

@@ -1,21 +1,20 @@
 -- The RGB640's palette port is what document 01 says of chip C. Assumes nothing.
 use Prim.Native.Nat.{ℕ, zero, suc, _<_, _≤_}
 use mathlib.Core.Path.{_≡_, refl, sym, ap, _∙_}
-use mathlib.Core.Bool.{true, false}
+use mathlib.Core.Bool.{true}
 use mathlib.Core.List.{[], _∷_}
 use native.Mathlib.Omega.{arith}
 use lib.ListN.{getD}
 use Rattle.vocabulary.specs.Face.{calledBy}
-use Rattle.vocabulary.specs.Outcome.{Outcome, accepting, refusing}
+use Rattle.vocabulary.specs.Outcome.{accepting, refusing}
 use Rattle.vocabulary.specs.Range.{Holds, below}
 use Rattle.vocabulary.specs.Refusal.{lentLength, outOfRange, due}
 use Rattle.vocabulary.proofs.Call.{stops, goes-on}
 use Rattle.vocabulary.proofs.Range.{not-fails, holds-passes, fails-right}
-use Rattle.rgb640.specs.Rgb640.{Chip, InRange, Space, lengths, ranges, short, outside, spaceOf, isAgainst, registerAt}
+use Rattle.rgb640.specs.Rgb640.{Chip, InRange, Space, lengths, ranges, short, outside, registerAt}
 use Rattle.rgb640.specs.Rgb640.{updateControl, indexData, noPort, Call, writes, reads, resets, looks, refusals, does}
 use Rattle.rgb640.specs.Rgb640.{called}
 use Rattle.rgb640.proofs.Index.{space-update, unwritten, unread, no-register}
-use Rattle.rgb640.proofs.InRange.{in-range}
 use Rattle.rgb640.proofs.Access.{write-data, read-data, byte-passes, state-passes, no-port, no-index}
 use Rattle.rgb640.proofs.Look.{look-state, look-table, look-nowhere}
 use Rattle.theorem_scope_c.specs.Scope.{Sizes, Ranges, Good, Asks, FromTo, updating, places, Accesses, Scope}
@@ -23,12 +22,16 @@ use Rattle.theorem_scope_c.proofs.Index.{index-rows}
 use Rattle.theorem_scope_c.proofs.Data.{write-rows, read-rows}
 
 -- ---- Refusals 1 and 9
+-- the two lists of the definitions, row by row
 module _ (c : Chip) where
   pub sizes-hold : Holds (lengths c) → Sizes c
   sizes-hold h = search
 
   pub ranges-hold : Holds (ranges c) → Ranges (c .state)
   ranges-hold h = search
+
+  pub ranges-given : Ranges (c .state) → Holds (ranges c)
+  ranges-given r = search
 
   good-range : Good c → InRange c
   good-range g = search (g .sizes, g .ranges)

@@ -1,7 +1,7 @@
--- WHAT DOCUMENT 01 SAYS OF CHIP C, in its order, words and numbers, as rows: a call, and what it answers and leaves. It
--- is said of any `called`. Of Rgb640.antt it takes the names of the chip's parts and of its calls, and nothing that
--- they do: who ticks these rows against document 01 need not believe that file. The RGB640's palette port meets them
--- (`scope`), and a chip that meets them is that chip (`scope-determines`), refusals included.
+-- WHAT DOCUMENT 01 SAYS OF CHIP C, in its words and numbers, as rows: a call, and what it answers and leaves. It is said
+-- of any `called`. Of Rgb640.antt it takes the names of the chip's parts and of its calls, and nothing that they do:
+-- who ticks these rows against document 01 need not believe that file. The RGB640's palette port meets them (`scope`),
+-- and a chip that meets them is that chip (`scope-determines`), refusals included.
 use Prim.Native.Nat.{ℕ, _+_, _*_, _/_, _%_, _<_, _≤_}
 use mathlib.Core.Path.{_≡_}
 use mathlib.Core.List.{List, [], _∷_}
@@ -114,8 +114,8 @@ pub record Index (called : Call → Chip → Outcome Chip) (c : Chip) : Type 0 w
   pub low-write : (b : ℕ) → b < 256
       → let s = c .state in
       called (writes 4 b) c ≡ accepting 0 0 (at (s .index / 256 * 256 + b) (s .place) (s .red) (s .green) c)
-  -- "Writing port 5 restarts at red and keeps the latches; if the index is then 0x8000 to 0x83FF, that entry is
-  -- fetched."
+  -- "Writing port 5 restarts at red and keeps the latches; if the index is then 0x8000 to 0x83FF", entry e's, "that entry
+  -- is fetched."
   pub high-write : (b : ℕ) → b < 256
       → let s = c .state in
       ¬ FromTo 0x8000 0x83FF (b * 256 + s .index % 256)
@@ -130,10 +130,10 @@ pub record Index (called : Call → Chip → Outcome Chip) (c : Chip) : Type 0 w
 
 -- ---- Port 6, data
 
--- At the index of entry e in write space. "The table is written at 0x4000 to 0x43FF: red and green are latched, the third
--- write stores all three at the index as it then stands." No write fetches. "After the third access the order restarts,
--- and where register 0x000E enables auto-increment (bit as its page in 001 says)": bit 1 for writes, and 0 enables, "the
--- offset steps modulo 1,024". "Without it the index and the fetched entry stay."
+-- At the index of entry e in write space: "The table is written at 0x4000 to 0x43FF: red and green are latched, the
+-- third write stores all three at the index as it then stands." A fetched entry is a copy: no write here changes it.
+-- "After the third access the order restarts, and where register 0x000E enables auto-increment (bit as its page in 001
+-- says)", which is bit 1 for writes, at 0, "the offset steps modulo 1,024". "Without it the index" stays.
 pub record Write (called : Call → Chip → Outcome Chip) (e : ℕ) (c : Chip) : Type 0 where
   pub red-write : (b : ℕ) → b < 256 → c .state .place ≡ 0
       → called (writes 6 b) c ≡ accepting 0 0 (at (0x4000 + e) 1 (expanded b) (c .state .green) c)
@@ -151,9 +151,9 @@ pub record Write (called : Call → Chip → Outcome Chip) (e : ℕ) (c : Chip) 
       ≡ accepting 0 0
       (withTable (storing e (s .red) (s .green) (expanded b) (c .table)) (at (0x4000 + e) 0 (s .red) (s .green) c))
 
--- At the index of entry e in read space. "It is read at 0x8000 to 0x83FF from the fetched entry, as component divided by
--- 4, floored." After the third, by bit 2 for reads, "the offset steps modulo 1,024 and, in read space, that entry is
--- fetched. Without it the index and the fetched entry stay."
+-- At the index of entry e in read space: "It is read at 0x8000 to 0x83FF from the fetched entry, as component divided
+-- by 4, floored." After the third, by bit 2 for reads, at 0, "the offset steps modulo 1,024 and, in read space, that
+-- entry is fetched. Without it the index and the fetched entry stay."
 pub record Read (called : Call → Chip → Outcome Chip) (e : ℕ) (c : Chip) : Type 0 where
   pub red-read : c .state .place ≡ 0
       → let s = c .state in
@@ -192,7 +192,8 @@ pub record Accesses (called : Call → Chip → Outcome Chip) (c : Chip) : Type 
   pub write : (e : ℕ) → e < 1024 → c .state .index ≡ 0x4000 + e → Write called e c
   pub read : (e : ℕ) → e < 1024 → c .state .index ≡ 0x8000 + e → Read called e c
   -- "Register 0x000E is one byte, read and written at its index; that moves nothing."
-  pub update-write : (b : ℕ) → b < 256 → c .state .index ≡ 0x000E → called (writes 6 b) c ≡ accepting 0 0 (updating b c)
+  pub update-write : (b : ℕ) → b < 256 → c .state .index ≡ 0x000E
+      → called (writes 6 b) c ≡ accepting 0 0 (updating b c)
   pub update-read : c .state .index ≡ 0x000E → called (reads 6) c ≡ accepting (c .state .update) 0 c
   -- 4: "C data access at an index not named above, or against its direction"
   pub no-write : (b : ℕ) → b < 256 → ¬ (c .state .index ≡ 0x000E) → ¬ FromTo 0x4000 0x43FF (c .state .index)
