@@ -86,7 +86,7 @@ module _ (c : Chip) (g : Good c) where
       by-bit (s .update) 1
       (λ u. row (λ f m. m .write e w i .blue-write-steps b h p u))
       (λ u. row (λ f m. m .write e w i .blue-write-stays b h p u))))
-      (λ off. row (λ f m. m .no-write b h (eqb-false _ _ t) off)))
+      (λ off. row (λ f m. m .no-write b h (eqb-false _ _ t) (λ o. off (omega arith)))))
 
   data-read : Fixed (reads 6) c
   data-read =
@@ -103,7 +103,7 @@ module _ (c : Chip) (g : Good c) where
       by-bit (s .update) 2
       (λ u. row (λ f m. m .read e w i .blue-read-steps p u))
       (λ u. row (λ f m. m .read e w i .blue-read-stays p u))))
-      (λ off. row (λ f m. m .no-read (eqb-false _ _ t) off)))
+      (λ off. row (λ f m. m .no-read (eqb-false _ _ t) (λ o. off (omega arith)))))
 
   high-write : (b : ℕ) → b < 256 → Fixed (writes 5 b) c
   high-write b h =

@@ -79,18 +79,18 @@ module _ (c : Chip) (r : InRange c) where
   unfolding updateControl
   update-read e = sym (read-data c r (ap (λ (row : Space). row .onRead) (space-update _ e)))
 
-  no-write : (b : ℕ) → b < 256 → ¬ (c .state .index ≡ 0x000E) → ¬ FromTo 0x4000 0x43FF (c .state .index)
+  no-write : (b : ℕ) → b < 256 → ¬ (c .state .index ≡ 0x000E)
+      → (0x4000 ≤ c .state .index → c .state .index < 0x4400 → ⊥)
       → called (writes 6 b) c ≡ refusing 4 0 c
   unfolding calledBy registerAt
   no-write b h other off =
-      sym (no-index (below b 256 ∷ []) indexData _ c _ r (byte-passes c r b h) refl
-      (unwritten _ other (λ l u. off (l, omega arith))))
+      sym (no-index (below b 256 ∷ []) indexData _ c _ r (byte-passes c r b h) refl (unwritten _ other off))
 
-  no-read : ¬ (c .state .index ≡ 0x000E) → ¬ FromTo 0x8000 0x83FF (c .state .index)
+  no-read : ¬ (c .state .index ≡ 0x000E) → (0x8000 ≤ c .state .index → c .state .index < 0x8400 → ⊥)
       → called (reads 6) c ≡ refusing 4 0 c
   unfolding calledBy registerAt
   no-read other off =
-      sym (no-index [] indexData _ c _ r (state-passes c r) refl (unread _ other (λ l u. off (l, omega arith))))
+      sym (no-index [] indexData _ c _ r (state-passes c r) refl (unread _ other off))
 
   not-served : (port : ℕ) → ¬ FromTo 4 6 port → noPort (registerAt port) ≡ true
   not-served port off =
@@ -124,8 +124,8 @@ accesses c g =
       read = read-rows c r;
       update-write = update-write c r;
       update-read = update-read c r;
-      no-write = no-write c r;
-      no-read = no-read c r;
+      no-write = λ b h other off. no-write c r b h other (λ l u. off (l, omega arith));
+      no-read = λ other off. no-read c r other (λ l u. off (l, omega arith));
       no-port = other-port c r;
       no-byte = no-byte c (g .sizes);
       look-state = look-place c r;
