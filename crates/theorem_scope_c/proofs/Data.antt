@@ -18,6 +18,7 @@ use Rattle.rgb640.proofs.Order.{write-enabled, write-disabled, read-enabled, re
 use Rattle.rgb640.proofs.Access.{write-data, read-data}
 use Rattle.theorem_scope_c.specs.Scope.{Write, Read, at, fetching, withTable, storing, entryOf, expanded}
 
+-- at entry e's index
 module _ (c : Chip) (r : InRange c) (e : ℕ) (l : e < 1024) where
   abbrev s : State
   s = c .state
@@ -64,6 +65,7 @@ module _ (c : Chip) (r : InRange c) (e : ℕ) (l : e < 1024) where
         sym (read-data c r (ap (λ (row : Space). row .onRead) (space-read _ (omega arith) (omega arith))))
         ∙ ap (λ (n : Answer). outcome n (c .table)) (sym f)
 
+    -- the third, likewise
     third : s .place ≡ 2 → (n : State) → n ≡ restarted reading (fetchesEntry (c .table)) s
         → called (reads 6) c ≡ outcome (accept (s .fetched .blue / 4) n) (c .table)
     third p n f = told _ (blue-told s (c .table) p refl f)

@@ -22,8 +22,8 @@ use Rattle.theorem_scope_c.proofs.Index.{index-rows}
 use Rattle.theorem_scope_c.proofs.Data.{write-rows, read-rows}
 
 -- ---- Refusals 1 and 9
--- the two lists of the definitions, row by row
 module _ (c : Chip) where
+  -- the definitions' lengths and ranges are document 01's
   pub sizes-hold : Holds (lengths c) → Sizes c
   sizes-hold h = search
 
@@ -68,7 +68,7 @@ module _ (c : Chip) where
   no-byte : Sizes c → (port b : ℕ) → 256 ≤ b → called (writes port b) c ≡ refusing 9 0 c
   no-byte z port b l = refused-nine _ refl z (not-fails (below b 256 ∷ ranges c) (λ g. omega arith))
 
--- ---- A good chip
+-- ---- A good chip: register 0x000E, what is refused by index and port, and the places of a look
 module _ (c : Chip) (r : InRange c) where
   update-write : (b : ℕ) → b < 256 → c .state .index ≡ 0x000E
       → called (writes 6 b) c ≡ accepting 0 0 (updating b c)
@@ -89,8 +89,7 @@ module _ (c : Chip) (r : InRange c) where
   no-read : ¬ (c .state .index ≡ 0x000E) → (0x8000 ≤ c .state .index → c .state .index < 0x8400 → ⊥)
       → called (reads 6) c ≡ refusing 4 0 c
   unfolding calledBy registerAt
-  no-read other off =
-      sym (no-index [] indexData _ c _ r (state-passes c r) refl (unread _ other off))
+  no-read other off = sym (no-index [] indexData _ c _ r (state-passes c r) refl (unread _ other off))
 
   not-served : (port : ℕ) → ¬ FromTo 4 6 port → noPort (registerAt port) ≡ true
   not-served port off =

@@ -1,7 +1,7 @@
--- WHAT DOCUMENT 01 SAYS OF CHIP C, in its words and numbers, as rows: a call, and what it answers and leaves. It is said
--- of any `called`. Of Rgb640.antt it takes the names of the chip's parts and of its calls, and nothing that they do:
--- who ticks these rows against document 01 need not believe that file. The RGB640's palette port meets them (`scope`),
--- and a chip that meets them is that chip (`scope-determines`), refusals included.
+-- WHAT DOCUMENT 01 SAYS OF CHIP C, in its words and numbers, as rows: a call, and what it answers and leaves. It is
+-- said of any `called`. Of Rgb640.antt it takes the names of the chip's parts and of its calls, and nothing that they
+-- do: who ticks these rows against document 01 need not believe that file. The RGB640's palette port meets them
+-- (`scope`), and a chip that meets them is that chip (`scope-determines`), refusals included.
 use Prim.Native.Nat.{ℕ, _+_, _*_, _/_, _%_, _<_, _≤_}
 use mathlib.Core.Path.{_≡_}
 use mathlib.Core.List.{List, [], _∷_}
@@ -114,8 +114,8 @@ pub record Index (called : Call → Chip → Outcome Chip) (c : Chip) : Type 0 w
   pub low-write : (b : ℕ) → b < 256
       → let s = c .state in
       called (writes 4 b) c ≡ accepting 0 0 (at (s .index / 256 * 256 + b) (s .place) (s .red) (s .green) c)
-  -- "Writing port 5 restarts at red and keeps the latches; if the index is then 0x8000 to 0x83FF", entry e's, "that entry
-  -- is fetched."
+  -- "Writing port 5 restarts at red and keeps the latches; if the index is then 0x8000 to 0x83FF", entry e's, "that
+  -- entry is fetched."
   pub high-write : (b : ℕ) → b < 256
       → let s = c .state in
       ¬ FromTo 0x8000 0x83FF (b * 256 + s .index % 256)
