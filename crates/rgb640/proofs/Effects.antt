@@ -5,6 +5,7 @@ use mathlib.Core.Bool.{false}
 use native.Mathlib.Omega.{arith}
 use Rattle.vocabulary.specs.Outcome.{Outcome}
 use Rattle.vocabulary.specs.Component.{put}
+use Rattle.vocabulary.specs.Line.{line}
 use Rattle.vocabulary.proofs.Face.{called-holds}
 use Rattle.expand.specs.Expand.{ten}
 use Rattle.expand.proofs.Width.{ten-top}
@@ -15,7 +16,8 @@ use Rattle.rgb640.specs.Rgb640.{threeBytes, stepped, paletteTaken}
 use Rattle.rgb640.specs.Rgb640.{Space, updateControl, paletteWrite, paletteRead, nowhere, spaceOf}
 use Rattle.rgb640.specs.Rgb640.{indexHigh, registerAt, wrote, writes, reads, refusals, does, called, InRange}
 use Rattle.rgb640.proofs.Index.{space-holds, space-update, space-write, space-read}
-use Rattle.rgb640.proofs.Order.{red-latched, blue-stored, blue-told, restarts, stays}
+use Rattle.rgb640.proofs.Order.{red-latched, blue-stored, blue-told, restarts, steps, stays}
+use Rattle.rgb640.proofs.Order.{write-enabled, write-disabled, read-enabled, read-disabled}
 use Rattle.rgb640.proofs.Access.{write-data, read-data}
 
 -- ---- Ports 4 and 5
@@ -100,10 +102,17 @@ module _ (c : Chip) (r : InRange c) where
 pub offset-wraps : (next 0x43FF ≡ 0x4000) × (next 0x83FF ≡ 0x8000)
 offset-wraps = (refl, refl)
 
--- bit 1 (WRAI) alone stops the writes' step, and bit 2 (RDAI) alone the reads'
+-- register 0x000E, whatever its other bits: bit 1 (WRAI) is the writes' and bit 2 (RDAI) the reads'; at 0 the index
+-- steps, at 1 it stays
 module _ (fetch : State → State) (s : State) (p : s .place ≡ 2) where
-  pub write-bit-stops : s .update ≡ 2 → stepped threeBytes writing fetch s ≡ at s (s .index) 0
-  write-bit-stops e = restarts threeBytes writing fetch s (rw p) ∙ stays writing fetch s (rw e)
+  pub write-bit-steps : line (s .update) 1 ≡ 0 → stepped threeBytes writing fetch s ≡ fetch (at s (next (s .index)) 0)
+  write-bit-steps e = restarts threeBytes writing fetch s (rw p) ∙ steps writing fetch s (write-enabled _ e)
 
-  pub read-bit-stops : s .update ≡ 4 → stepped threeBytes reading fetch s ≡ at s (s .index) 0
-  read-bit-stops e = restarts threeBytes reading fetch s (rw p) ∙ stays reading fetch s (rw e)
+  pub write-bit-stops : line (s .update) 1 ≡ 1 → stepped threeBytes writing fetch s ≡ at s (s .index) 0
+  write-bit-stops e = restarts threeBytes writing fetch s (rw p) ∙ stays writing fetch s (write-disabled _ e)
+
+  pub read-bit-steps : line (s .update) 2 ≡ 0 → stepped threeBytes reading fetch s ≡ fetch (at s (next (s .index)) 0)
+  read-bit-steps e = restarts threeBytes reading fetch s (rw p) ∙ steps reading fetch s (read-enabled _ e)
+
+  pub read-bit-stops : line (s .update) 2 ≡ 1 → stepped threeBytes reading fetch s ≡ at s (s .index) 0
+  read-bit-stops e = restarts threeBytes reading fetch s (rw p) ∙ stays reading fetch s (read-disabled _ e)

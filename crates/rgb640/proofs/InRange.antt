@@ -123,6 +123,10 @@ module _ (c : Chip) (r : InRange c) where
 pub look-leaves : (place : ℕ) (c : Chip) → does (looks place) c .left ≡ c
 look-leaves place c = refl
 
+-- and a reset the table
+pub reset-leaves : (c : Chip) → does resets c .left .table ≡ c .table
+reset-leaves c = refl
+
 pub called-keeps-range : Keeps called InRange
 called-keeps-range (writes port b) c r =
     called-holds refusals does (writes port b) c InRange r

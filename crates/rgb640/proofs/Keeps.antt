@@ -14,7 +14,7 @@ use Rattle.rgb640.specs.Rgb640.{paletteWrite, paletteRead, nowhere, spac
 use Rattle.rgb640.specs.Rgb640.{indexData, notServed, registerAt, served, dataWritten, wrote, told, answers, Call}
 use Rattle.rgb640.specs.Rgb640.{writes, reads, resets, looks, isLook, refusals, does, called}
 use Rattle.rgb640.proofs.Index.{space-holds}
-use Rattle.rgb640.proofs.InRange.{look-leaves}
+use Rattle.rgb640.proofs.InRange.{look-leaves, reset-leaves}
 
 -- ---- What is done where nothing is refused gives no refusal itself
 pub does-accepts : (k : Call) (c : Chip) → does k c .refusal ≡ 0
@@ -72,7 +72,8 @@ module _ (c : Chip) where
       called-holds refusals does (reads port) c (λ (d : Chip). d .table ≡ c .table) refl (λ none. refl)
 
   pub reset-keeps-table : called resets c .left .table ≡ c .table
-  reset-keeps-table = called-holds refusals does resets c (λ (d : Chip). d .table ≡ c .table) refl (λ none. refl)
+  reset-keeps-table =
+      called-holds refusals does resets c (λ (d : Chip). d .table ≡ c .table) refl (λ none. reset-leaves c)
 
 -- a write changes no number outside the index's entry
 module _ (c : Chip) (n : ℕ) (f : n ≡ 3 * offset (c .state .index) → ⊥) (g : n ≡ 3 * offset (c .state .index) + 1 → ⊥)

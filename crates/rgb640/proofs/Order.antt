@@ -106,16 +106,28 @@ module _ (s : State) (t : List ℕ) where
         → n ≡ restarted reading (fetchesEntry t) s → a ≡ acceptTold (paletteTold threeBytes (chip s t))
     blue-told p e f = let l = ends threeBytes s t _ (byte-at _ blue p) (rw p) in cc
 
--- ---- Register 0x000E: the code's masks 2 and 4 are its bits 1 and 2
+-- ---- Register 0x000E: bit 1 is the writes' and bit 2 the reads', 0 enables and 1 disables; the code's masks 2 and 4
 module _ (u : ℕ) where
+  pub write-enabled : line u 1 ≡ 0 → increments writing u ≡ true
+  write-enabled e = eq-eqb _ _ e
+
+  pub write-disabled : line u 1 ≡ 1 → increments writing u ≡ false
+  write-disabled e = ne-eqb (line u 1) 0 (λ z. omega arith)
+
+  pub read-enabled : line u 2 ≡ 0 → increments reading u ≡ true
+  read-enabled e = eq-eqb _ _ e
+
+  pub read-disabled : line u 2 ≡ 1 → increments reading u ≡ false
+  read-disabled e = ne-eqb (line u 2) 0 (λ z. omega arith)
+
   pub write-steps : bitAnd u 2 ≡ 0 → increments writing u ≡ true
-  write-steps e = let m = and-high u 1 1 in let z : line u 1 ≡ 0 = omega arith in eq-eqb _ _ z
+  write-steps e = let m = and-high u 1 1 in write-enabled (omega arith)
 
   pub write-stays : (bitAnd u 2 ≡ 0 → ⊥) → increments writing u ≡ false
   write-stays e = let m = and-high u 1 1 in ne-eqb (line u 1) 0 (λ z. e (omega arith))
 
   pub read-steps : bitAnd u 4 ≡ 0 → increments reading u ≡ true
-  read-steps e = let m = and-high u 1 2 in let z : line u 2 ≡ 0 = omega arith in eq-eqb _ _ z
+  read-steps e = let m = and-high u 1 2 in read-enabled (omega arith)
 
   pub read-stays : (bitAnd u 4 ≡ 0 → ⊥) → increments reading u ≡ false
   read-stays e = let m = and-high u 1 2 in ne-eqb (line u 2) 0 (λ z. e (omega arith))

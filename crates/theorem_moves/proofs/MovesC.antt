@@ -6,7 +6,7 @@ use native.Mathlib.Omega.{arith}
 use Rattle.vocabulary.proofs.Choice.{cases, picks-first, picks-second}
 use Rattle.vocabulary.proofs.Face.{called-holds}
 use Rattle.rgb640.specs.declared.State.{State}
-use Rattle.rgb640.specs.Rgb640.{Chip, chip, at, next, increments, Direction, writing, reading, state, Transfer}
+use Rattle.rgb640.specs.Rgb640.{Chip, chip, at, next, increments, Direction, writing, reading, Transfer}
 use Rattle.rgb640.specs.Rgb640.{threeBytes, follows, restarted, stepped, taken, paletteTaken, paletteTold}
 use Rattle.rgb640.specs.Rgb640.{fetchesNothing, fetchesEntry, Space, updateControl, paletteWrite, paletteRead, nowhere}
 use Rattle.rgb640.specs.Rgb640.{spaceOf, Register, indexLow, indexHigh, indexData, notServed, registerAt, served}
@@ -29,6 +29,19 @@ kept-by-read indexData c = record { register = λ e. refl; elsewhere = refl }
 kept-by-read notServed c = refl
 
 -- ---- the order, and the fetch: index, place and fetched entry
+-- what holds at every index and place, and of what is fetched there, holds after a transfer
+stepped-holds : (P : State → Type 0) (order : List Transfer) (d : Direction) (fetch : State → State) (s : State)
+    → ((i p : ℕ) → P (at s i p)) → ((i p : ℕ) → P (fetch (at s i p))) → P (stepped order d fetch s)
+unfolding stepped restarted
+stepped-holds P order d fetch s g h =
+    cases (follows order (s .place))
+    (λ e. subst P (sym (picks-first _ _ e)) (g _ _))
+    (λ e.
+    subst P (sym (picks-second _ _ e))
+    (cases (increments d (s .update))
+    (λ f. subst P (sym (picks-first _ _ f)) (h (next (s .index)) 0))
+    (λ f. subst P (sym (picks-second _ _ f)) (g _ _))))
+
 module _ (s : State) (t : List ℕ) where
   abbrev Moves : State → Type 0
   Moves n = PlaceAlone (chip s t) (chip n t)
@@ -39,18 +52,6 @@ module _ (s : State) (t : List ℕ) where
       space-holds j (λ (row : Space). Moves (row .onIndex t (at s i p))) (λ l. refl, (λ l. refl, (λ l. refl, tt)))
       (λ out. refl)
 
-  stepped-leaves : (order : List Transfer) (d : Direction) (fetch : State → State)
-      → ((i p : ℕ) → Moves (fetch (at s i p))) → Moves (stepped order d fetch s)
-  unfolding stepped restarted
-  stepped-leaves order d fetch h =
-      cases (follows order (s .place))
-      (λ e. subst Moves (sym (picks-first _ _ e)) refl)
-      (λ e.
-      subst Moves (sym (picks-second _ _ e))
-      (cases (increments d (s .update))
-      (λ f. subst Moves (sym (picks-first _ _ f)) (h (next (s .index)) 0))
-      (λ f. subst Moves (sym (picks-second _ _ f)) refl)))
-
 -- ---- a write
 taken-leaves : (order : List Transfer) (b : ℕ) (c : Chip) → PaletteAlone c (taken order b c)
 unfolding taken
@@ -59,20 +60,23 @@ taken-leaves order b c =
     (λ e. subst (PaletteAlone c) (sym (picks-first _ _ e)) refl)
     (λ e. subst (PaletteAlone c) (sym (picks-second _ _ e)) refl)
 
--- what moves the place alone after the palette's part moved
-palette-after : (c d n : Chip) → PaletteAlone c d → PlaceAlone d n → PaletteAlone c n
+-- what moves index and place after the palette's part moved
+palette-after : (c d : Chip) (n : State) → PaletteAlone c d → n ≡ at (d .state) (n .index) (n .place)
+    → PaletteAlone c (chip n (d .table))
 palette-after c d n e h =
-    let s = n .state in
-    let same : s .update ≡ c .state .update =
-    ap (λ (x : Chip). x .state .update) h ∙ ap (λ (x : Chip). x .state .update) e in
-    subst (λ (u : ℕ). n ≡ chip (state (s .index) (s .place) (s .red) (s .green) (s .fetched) u) (n .table)) same refl
+    let same : n .update ≡ c .state .update =
+    ap (λ (m : State). m .update) h ∙ ap (λ (x : Chip). x .state .update) e in
+    let copy : n .fetched ≡ c .state .fetched =
+    ap (λ (m : State). m .fetched) h ∙ ap (λ (x : Chip). x .state .fetched) e in
+    rw (sym same, sym copy)
 
 palette-leaves : (order : List Transfer) (b : ℕ) (c : Chip) → PaletteAlone c (paletteTaken order b c)
 unfolding paletteTaken
 palette-leaves order b c =
     let n = taken order b c in
     palette-after c n _ (taken-leaves order b c)
-    (stepped-leaves (n .state) (n .table) order writing (fetchesNothing (n .table)) (λ i p. refl))
+    (stepped-holds (λ (m : State). m ≡ at (n .state) (m .index) (m .place)) order writing (fetchesNothing (n .table))
+    (n .state) (λ i p. refl) (λ i p. refl))
 
 data-write-leaves : (b : ℕ) (c : Chip) → DataWriteLeaves c (dataWritten (spaceOf (c .state .index)) b c)
 unfolding updateControl paletteWrite paletteRead nowhere served
@@ -104,7 +108,7 @@ unfolding updateControl paletteWrite paletteRead nowhere served paletteTold
 data-read-leaves c =
     let s = c .state in
     let t = c .table in
-    let steps = stepped-leaves s t threeBytes reading (fetchesEntry t) (λ i p. refl) in
+    let steps = stepped-holds (Moves s t) threeBytes reading (fetchesEntry t) s (λ i p. refl) (λ i p. refl) in
     space-holds (s .index) (λ (row : Space). DataReadLeaves c (chip (dataRead row c .1) t)) (
       λ l. record { register = λ e. refl; elsewhere = refl },
       (

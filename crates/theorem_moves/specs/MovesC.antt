@@ -9,11 +9,11 @@ PlaceAlone c d =
     let n = d .state in
     d ≡ chip (state (n .index) (n .place) (s .red) (s .green) (n .fetched) (s .update)) (c .table)
 
--- the palette's part: only register 0x000E stays
+-- the palette's part: the fetched entry, which is a copy, and register 0x000E stay
 abbrev pub PaletteAlone : Chip → Chip → Type 0
 PaletteAlone c d =
     let n = d .state in
-    d ≡ chip (state (n .index) (n .place) (n .red) (n .green) (n .fetched) (c .state .update)) (d .table)
+    d ≡ chip (state (n .index) (n .place) (n .red) (n .green) (c .state .fetched) (c .state .update)) (d .table)
 
 -- register 0x000E alone: its access moves nothing
 abbrev pub RegisterAlone : Chip → Chip → Type 0

@@ -1,0 +1,4 @@
+pub mod Index
+pub mod Data
+pub mod Scope
+pub mod Determined
