@@ -10,7 +10,7 @@ use Rattle.hd153108.specs.Hd153108.{Chip, writes, reads, resets, ticks, pixels,
 use Rattle.theorem_scope_a.specs.Scope.{Good, ofLines, shown, Accesses}
 use Rattle.theorem_scope_a.proofs.Scope.{scope}
 use Rattle.theorem_impostors.specs.Impostors.{once, ImpostorsA}
-use Rattle.theorem_impostors.proofs.Law.{stirs, stirs-or-refuses, all-four, tells-or-refuses}
+use Rattle.theorem_impostors.proofs.Law.{changed, stirs, stirs-or-refuses, all-four, tells-or-refuses}
 
 -- zeros, with such a read mask and such bytes in its tables
 chip : ℕ → ℕ → Chip
@@ -46,9 +46,6 @@ ones = scope .accesses (chip 0 1) (good 0 1 (omega arith))
 shown-apart : shown 0 0 0 (chip 0 0) ≡ shown 0 0 0 (chip 0 1) → ⊥
 unfolding chip ofLines pick
 shown-apart e = omega (arith, e)
-
-changed : {c d : Chip} (part : Chip → ℕ) → (part c ≡ part d → ⊥) → ¬ (c ≡ d)
-changed part h e = h (ap part e)
 
 -- a blink position at its period
 late : Chip

@@ -7,6 +7,10 @@ use Rattle.vocabulary.specs.Outcome.{Outcome, accepting, refusing}
 use Rattle.vocabulary.specs.Reply.{Reply, telling}
 use Rattle.theorem_impostors.specs.Impostors.{refusesAll, acceptsAll, oneReply, doesNothing, Caught, AllCaught}
 
+-- chips that differ in a number
+pub changed : {C : Type 0} {c d : C} (part : C → ℕ) → (part c ≡ part d → ⊥) → ¬ (c ≡ d)
+changed part h e = h (ap part e)
+
 module _ {X C K : Type 0} (called : K → C → Outcome C) (call : X → K) where
   -- an accepted call
   by-accepted : (x : X) (c : C) {v n : ℕ} {d : C} → called (call x) c ≡ accepting v n d
