@@ -1,8 +1,8 @@
 -- Chip A: for each kind of call, those that catch its impostors, on a chip of zeros and on one with a number that is
 -- not. Assumes nothing.
 use Prim.Native.Nat.{ℕ, _<_}
-use mathlib.Core.Path.{_≡_, refl, ap}
-use mathlib.Core.List.{List, []}
+use mathlib.Core.Path.{_≡_, refl}
+use mathlib.Core.List.{[]}
 use native.Mathlib.Omega.{arith}
 use lib.ListN.{replicate}
 use Rattle.vocabulary.specs.Choice.{pick}

@@ -1,7 +1,7 @@
 -- Chip C: for each kind of call, those that catch its impostors, on a chip of zeros and on one with an index that is
 -- not. Assumes nothing.
 use Prim.Native.Nat.{ℕ, _<_}
-use mathlib.Core.Path.{_≡_, refl}
+use mathlib.Core.Path.{refl}
 use native.Mathlib.Omega.{arith}
 use lib.ListN.{replicate, length-replicate}
 use Rattle.rgb640.specs.Rgb640.{Chip, called}

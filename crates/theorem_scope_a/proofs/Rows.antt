@@ -2,18 +2,17 @@
 use Prim.Native.Nat.{ℕ, _+_, _*_, _<_, _≤_}
 use mathlib.Core.Path.{_≡_, refl, sym, ap, _∙_}
 use mathlib.Core.Bool.{true}
-use mathlib.Core.List.{[], _∷_}
+use mathlib.Core.List.{_∷_}
 use native.Mathlib.Omega.{arith}
 use native.Mathlib.Nat.{add-zero}
 use lib.ListN.{getD}
 use Rattle.vocabulary.specs.Component.{Component, componentAt, put, red, green, blue}
-use Rattle.vocabulary.specs.Face.{calledBy}
 use Rattle.vocabulary.specs.Outcome.{Outcome, accepting, refusing}
-use Rattle.vocabulary.specs.Refusal.{lentLength, outOfRange}
-use Rattle.vocabulary.proofs.Call.{stops}
+use Rattle.vocabulary.specs.Range.{below}
+use Rattle.vocabulary.proofs.Face.{called-nine}
 use Rattle.vocabulary.proofs.Range.{not-fails}
 use Rattle.hd153108.specs.Hd153108.{Chip, Table, dataOf, registerAt, noRegister, entryAt, next}
-use Rattle.hd153108.specs.Hd153108.{tableOf, withTable, stepped, written, answers, InRange, writeRefusals}
+use Rattle.hd153108.specs.Hd153108.{tableOf, withTable, stepped, written, answers, InRange, ranges, refusals}
 use Rattle.hd153108.specs.Hd153108.{Call, writes, reads, does, called}
 use Rattle.hd153108.proofs.InRange.{not-short}
 use Rattle.hd153108.proofs.Access.{Access, writing, reading, selectOf, Served, access-goes, no-access}
@@ -77,7 +76,5 @@ module _ (c : Chip) (g : Good c) where
   no-register u e = sym (no-access c range u e)
 
   pub no-byte : (select b : ℕ) → 256 ≤ b → called (writes select b) c ≡ refusing 9 0 c
-  unfolding calledBy
   no-byte select b h =
-      sym (stops (writeRefusals select b c) 0 c _ (lentLength ∷ []) outOfRange 8 _ refl refl (not-short c range, tt)
-      (not-fails _ (λ f. omega arith)))
+      called-nine refusals does _ c (not-short c range) (not-fails (below b 256 ∷ ranges c) (λ f. omega arith))

@@ -2,26 +2,26 @@
 use Prim.Native.Nat.{ℕ, zero, suc, _+_, _<_}
 use mathlib.Core.Path.{_≡_, refl, sym, ap, _∙_}
 use mathlib.Core.Bool.{true, false, _&&_, _||_}
-use mathlib.Core.List.{List, [], _∷_}
+use mathlib.Core.List.{[], _∷_}
 use native.Mathlib.Nat.{add-zero}
 use native.Mathlib.Omega.{arith}
 use borrow.Author.Tests.{ne-eqb}
 use lib.Dec.{eqb}
-use lib.ListN.{length, getD, List·getD-eq-default}
+use lib.ListN.{getD, List·getD-eq-default}
 use Rattle.vocabulary.specs.Choice.{pick}
 use Rattle.vocabulary.specs.Face.{calledBy}
 use Rattle.vocabulary.specs.Line.{line}
 use Rattle.vocabulary.specs.Outcome.{accepting, refusing}
 use Rattle.vocabulary.specs.Range.{below}
-use Rattle.vocabulary.specs.Refusal.{lentLength, outOfRange, due}
-use Rattle.vocabulary.proofs.Call.{stops, goes-on}
+use Rattle.vocabulary.proofs.Call.{goes-on}
+use Rattle.vocabulary.proofs.Face.{called-one, called-nine}
+use Rattle.vocabulary.proofs.Cases.{any}
 use Rattle.vocabulary.proofs.Range.{not-fails, holds-passes, fails-right}
 use Rattle.hd153108.specs.Hd153108.{Chip, Table, colour, overlay, reserved, registerMapping, registerAt, noRegister}
 use Rattle.hd153108.specs.Hd153108.{short, tableOf, colourAt, overlayNumber, shownTable}
 use Rattle.hd153108.specs.Hd153108.{selected, shownEntry, shown, colourOf, written, answers, outside, ranges}
-use Rattle.hd153108.specs.Hd153108.{tickRefusals, pixelRanges, pixelRefusals, Call, writes, reads, resets, ticks}
-use Rattle.hd153108.specs.Hd153108.{pixels, looks, refusals, called}
-use Rattle.hd153108.proofs.InRange.{not-short}
+use Rattle.hd153108.specs.Hd153108.{tickRefusals, pixelRanges, Call, writes, reads, resets, ticks}
+use Rattle.hd153108.specs.Hd153108.{pixels, looks, refusals, does, called}
 use Rattle.hd153108.proofs.Access.{writing, reading}
 use Rattle.hd153108.proofs.Captions.{captions}
 use Rattle.hd153108.proofs.Data.{byte-at}
@@ -45,29 +45,23 @@ is-outside : (c : Chip) → ¬ Ranges (c .state) → outside c ≡ true
 is-outside c h = not-fails _ (λ l. h (hold-ranges (c .state) l))
 
 one : (k : Call) (c : Chip) → Asks k → ¬ Sizes c → called k c ≡ refusing 1 0 c
-unfolding calledBy
-one (writes select b) c a h = sym (stops _ 0 c _ [] lentLength 0 _ refl refl tt (is-short c h))
-one (reads select) c a h = sym (stops _ 0 c _ [] lentLength 0 _ refl refl tt (is-short c h))
-one (pixels enable number b) c a h = sym (stops _ 0 c _ [] lentLength 0 _ refl refl tt (is-short c h))
-one (looks place) c a h = sym (stops _ 0 c _ [] lentLength 0 _ refl refl tt (is-short c h))
+one (writes select b) c a h = called-one refusals does _ c (is-short c h)
+one (reads select) c a h = called-one refusals does _ c (is-short c h)
+one (pixels enable number b) c a h = called-one refusals does _ c (is-short c h)
+one (looks place) c a h = called-one refusals does _ c (is-short c h)
 one resets c a h = absurd a
 one ticks c a h = absurd a
 
+-- 9 is due, whatever else the call asks
 module _ (c : Chip) (l : Sizes c) (h : ¬ Ranges (c .state)) where
-  -- 9 is due, whatever else the call asks
-  nine-due : (k : Call) → due (refusals k c) lentLength ≡ short c → due (refusals k c) outOfRange ≡ true
-      → called k c ≡ refusing 9 0 c
-  unfolding calledBy
-  nine-due k e f =
-      sym (stops (refusals k c) 0 c _ (lentLength ∷ []) outOfRange 8 _ refl refl (e ∙ is-long c l, tt) f)
-
   nine : (k : Call) → Asks k → called k c ≡ refusing 9 0 c
   nine (writes select b) a =
-      nine-due (writes select b) refl (fails-right (below b 256 ∷ []) (ranges c) (is-outside c h))
-  nine (reads select) a = nine-due (reads select) refl (is-outside c h)
+      called-nine refusals does _ c (is-long c l) (fails-right (below b 256 ∷ []) (ranges c) (is-outside c h))
+  nine (reads select) a = called-nine refusals does _ c (is-long c l) (is-outside c h)
   nine (pixels enable number b) a =
-      nine-due (pixels enable number b) refl (fails-right (pixelRanges enable number) (ranges c) (is-outside c h))
-  nine (looks place) a = nine-due (looks place) refl (is-outside c h)
+      called-nine refusals does _ c (is-long c l)
+      (fails-right (pixelRanges enable number) (ranges c) (is-outside c h))
+  nine (looks place) a = called-nine refusals does _ c (is-long c l) (is-outside c h)
   nine resets a = absurd a
   nine ticks a = absurd a
 
@@ -104,20 +98,8 @@ module _ (enable number byte : ℕ) (c : Chip) where
       ∙ rw (byte-seen s byte, number-seen s number) refl)
 
   pixel-outside : Good c → ¬ ((enable < 2) × (number < 4)) → called (pixels enable number byte) c ≡ refusing 9 0 c
-  unfolding calledBy
   pixel-outside g h =
-      sym (stops (pixelRefusals enable number c) 0 c _ (lentLength ∷ []) outOfRange 8 _ refl refl
-      (not-short c (good-in-range c g), tt) (not-fails _ (λ f. h (f .0, f .1 .0))))
-
--- what is told of each number of a list is told of any
-abbrev Each : (ℕ → ℕ → Type 0) → List ℕ → Type 0
-Each T [] = Unit
-Each T (n ∷ l) = T 0 n × Each (λ i. T (suc i)) l
-
-any : (T : ℕ → ℕ → Type 0) (l : List ℕ) → Each T l → (i : ℕ) → i < length l → T i (getD l i 0)
-any T [] e i h = absurd (let z : ⊥ = omega arith in z)
-any T (n ∷ l) e zero h = e .0
-any T (n ∷ l) e (suc i) h = any (λ j. T (suc j)) l (e .1) i (omega arith)
+      called-nine refusals does _ c (is-long c (g .sizes)) (not-fails _ (λ f. h (f .0, f .1 .0)))
 
 state-places : (c : Chip) → Good c → (i : ℕ) → i < 9
     → called (looks i) c ≡ accepting (getD (S.places (c .state)) i 0) 0 c
@@ -165,9 +147,7 @@ scope = record {
   nine = λ k c a l h. nine c l h k a;
   tick = λ c h.
       sym (goes-on (tickRefusals (c .state .clock)) 0 c _ (holds-passes _ (clock-holds (c .state .clock) h), tt));
-  no-tick = λ c h.
-      sym (stops (tickRefusals (c .state .clock)) 0 c _ (lentLength ∷ []) outOfRange 8 _ refl refl (refl, tt)
-      (not-fails _ (λ f. h (holds-clock (c .state .clock) f))));
+  no-tick = λ c h. called-nine refusals does ticks c refl (not-fails _ (λ f. h (holds-clock (c .state .clock) f)));
   reset = λ c. sym (goes-on [] 0 c _ tt);
   accesses = good-rows;
 }

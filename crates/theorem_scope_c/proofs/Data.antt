@@ -1,5 +1,5 @@
 -- Port 6 of the RGB640 in the table's two spaces, as document 01 has it. Assumes nothing.
-use Prim.Native.Nat.{ℕ, _+_, _/_, _%_, _<_}
+use Prim.Native.Nat.{ℕ, _+_, _/_, _<_}
 use mathlib.Core.Path.{_≡_, refl, sym, ap, _∙_}
 use mathlib.Core.List.{List}
 use native.Mathlib.Omega.{arith}
@@ -13,7 +13,8 @@ use Rattle.rgb640.specs.Rgb640.{Chip, chip, InRange, entry, next, offset, three
 use Rattle.rgb640.specs.Rgb640.{Space, paletteWrite, paletteRead, accept, acceptTold, outcome, writes, reads, called}
 use Rattle.rgb640.specs.Rgb640.{restarted, writing, reading, fetchesNothing, fetchesEntry}
 use Rattle.rgb640.proofs.Index.{space-write, space-read}
-use Rattle.rgb640.proofs.Order.{red-latched, green-latched, blue-stored, red-told, green-told, blue-told, steps, stays}
+use Rattle.rgb640.proofs.Order.{red-latched, green-latched, blue-stored, red-told, green-told, blue-told, steps}
+use Rattle.rgb640.proofs.Order.{stays}
 use Rattle.rgb640.proofs.Order.{write-enabled, write-disabled, read-enabled, read-disabled}
 use Rattle.rgb640.proofs.Access.{write-data, read-data}
 use Rattle.theorem_scope_c.specs.Scope.{Write, Read, at, fetching, withTable, storing, entryOf, expanded}

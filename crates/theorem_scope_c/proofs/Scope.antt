@@ -1,15 +1,16 @@
 -- The RGB640's palette port is what document 01 says of chip C. Assumes nothing.
-use Prim.Native.Nat.{ℕ, zero, suc, _<_, _≤_}
-use mathlib.Core.Path.{_≡_, refl, sym, ap, _∙_}
-use mathlib.Core.Bool.{true}
+use Prim.Native.Nat.{ℕ, _<_, _≤_}
+use mathlib.Core.Path.{_≡_, refl, sym, ap}
+use mathlib.Core.Bool.{true, false}
 use mathlib.Core.List.{[], _∷_}
 use native.Mathlib.Omega.{arith}
 use lib.ListN.{getD}
 use Rattle.vocabulary.specs.Face.{calledBy}
 use Rattle.vocabulary.specs.Outcome.{accepting, refusing}
 use Rattle.vocabulary.specs.Range.{Holds, below}
-use Rattle.vocabulary.specs.Refusal.{lentLength, outOfRange, due}
-use Rattle.vocabulary.proofs.Call.{stops, goes-on}
+use Rattle.vocabulary.proofs.Call.{goes-on}
+use Rattle.vocabulary.proofs.Cases.{any}
+use Rattle.vocabulary.proofs.Face.{called-one, called-nine}
 use Rattle.vocabulary.proofs.Range.{not-fails, holds-passes, fails-right}
 use Rattle.rgb640.specs.Rgb640.{Chip, InRange, Space, lengths, ranges, short, outside, registerAt}
 use Rattle.rgb640.specs.Rgb640.{updateControl, indexData, noPort, Call, writes, reads, resets, looks, refusals, does}
@@ -24,49 +25,46 @@ use Rattle.theorem_scope_c.proofs.Data.{write-rows, read-rows}
 -- ---- Refusals 1 and 9
 module _ (c : Chip) where
   -- the definitions' lengths and ranges are document 01's
-  pub sizes-hold : Holds (lengths c) → Sizes c
-  sizes-hold h = search
+  pub sizes-hold : Sizes c → Holds (lengths c)
+  sizes-hold z = search
 
-  pub ranges-hold : Holds (ranges c) → Ranges (c .state)
-  ranges-hold h = search
+  pub hold-sizes : Holds (lengths c) → Sizes c
+  hold-sizes h = search
 
-  pub ranges-given : Ranges (c .state) → Holds (ranges c)
-  ranges-given r = search
+  pub ranges-hold : Ranges (c .state) → Holds (ranges c)
+  ranges-hold r = search
+
+  pub hold-ranges : Holds (ranges c) → Ranges (c .state)
+  hold-ranges h = search
 
   good-range : Good c → InRange c
   good-range g = search (g .sizes, g .ranges)
 
-  -- a call whose table tries the length and the state first
-  module _ (k : Call) (w : due (refusals k c) lentLength ≡ short c) where
-    refused-one : ¬ Sizes c → called k c ≡ refusing 1 0 c
-    unfolding calledBy
-    refused-one h =
-        sym (stops (refusals k c) 0 c (does k c) [] lentLength 0 _ refl refl tt
-        (w ∙ not-fails (lengths c) (λ g. h (sizes-hold g))))
+  short-is : ¬ Sizes c → short c ≡ true
+  short-is h = not-fails (lengths c) (λ g. h (hold-sizes g))
 
-    refused-nine : Sizes c → due (refusals k c) outOfRange ≡ true → called k c ≡ refusing 9 0 c
-    unfolding calledBy
-    refused-nine z e =
-        let whole = w ∙ holds-passes (lengths c) (z .table, tt) in
-        sym (stops (refusals k c) 0 c (does k c) (lentLength ∷ []) outOfRange 8 _ refl refl (whole, tt) e)
+  whole-is : Sizes c → short c ≡ false
+  whole-is z = holds-passes (lengths c) (sizes-hold z)
 
   one : (k : Call) → Asks k → ¬ Sizes c → called k c ≡ refusing 1 0 c
-  one (writes port b) a h = refused-one _ refl h
-  one (reads port) a h = refused-one _ refl h
+  one (writes port b) a h = called-one refusals does _ c (short-is h)
+  one (reads port) a h = called-one refusals does _ c (short-is h)
   one resets a h = absurd a
-  one (looks place) a h = refused-one _ refl h
+  one (looks place) a h = called-one refusals does _ c (short-is h)
 
   bad : ¬ Ranges (c .state) → outside c ≡ true
-  bad h = not-fails (ranges c) (λ g. h (ranges-hold g))
+  bad h = not-fails (ranges c) (λ g. h (hold-ranges g))
 
   nine : (k : Call) → Asks k → Sizes c → ¬ Ranges (c .state) → called k c ≡ refusing 9 0 c
-  nine (writes port b) a z h = refused-nine _ refl z (fails-right (below b 256 ∷ []) (ranges c) (bad h))
-  nine (reads port) a z h = refused-nine _ refl z (bad h)
+  nine (writes port b) a z h =
+      called-nine refusals does _ c (whole-is z) (fails-right (below b 256 ∷ []) (ranges c) (bad h))
+  nine (reads port) a z h = called-nine refusals does _ c (whole-is z) (bad h)
   nine resets a z h = absurd a
-  nine (looks place) a z h = refused-nine _ refl z (bad h)
+  nine (looks place) a z h = called-nine refusals does _ c (whole-is z) (bad h)
 
   no-byte : Sizes c → (port b : ℕ) → 256 ≤ b → called (writes port b) c ≡ refusing 9 0 c
-  no-byte z port b l = refused-nine _ refl z (not-fails (below b 256 ∷ ranges c) (λ g. omega arith))
+  no-byte z port b l =
+      called-nine refusals does _ c (whole-is z) (not-fails (below b 256 ∷ ranges c) (λ g. omega arith))
 
 -- ---- A good chip: register 0x000E, what is refused by index and port, and the places of a look
 module _ (c : Chip) (r : InRange c) where
@@ -104,15 +102,10 @@ module _ (c : Chip) (r : InRange c) where
   )
 
   look-place : (i : ℕ) → i < 8 → called (looks i) c ≡ accepting (getD (places (c .state)) i 0) 0 c
-  look-place zero h = look-state c r .0
-  look-place (suc zero) h = look-state c r .1
-  look-place (suc (suc zero)) h = look-state c r .2
-  look-place (suc (suc (suc zero))) h = look-state c r .3
-  look-place (suc (suc (suc (suc zero)))) h = look-state c r .4
-  look-place (suc (suc (suc (suc (suc zero))))) h = look-state c r .5
-  look-place (suc (suc (suc (suc (suc (suc zero)))))) h = look-state c r .6
-  look-place (suc (suc (suc (suc (suc (suc (suc zero))))))) h = look-state c r .7
-  look-place (suc (suc (suc (suc (suc (suc (suc (suc i)))))))) h = absurd (omega arith)
+  look-place =
+      let (t0, t1, t2, t3, t4, t5, t6, t7) = look-state c r in
+      any (λ i n. called (looks i) c ≡ accepting n 0 c) (places (c .state))
+      (t0, (t1, (t2, (t3, (t4, (t5, (t6, (t7, tt))))))))
 
 accesses : (c : Chip) → Good c → Accesses called c
 accesses c g =
