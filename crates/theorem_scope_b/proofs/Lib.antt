@@ -1,0 +1,5 @@
+pub mod Good
+pub mod Asked
+pub mod Select
+pub mod Shown
+pub mod Scope
