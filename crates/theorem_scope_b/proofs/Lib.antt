@@ -3,3 +3,5 @@ pub mod Asked
 pub mod Select
 pub mod Shown
 pub mod Scope
+pub mod Cases
+pub mod Determined
