@@ -1,8 +1,8 @@
 -- Either way: a number below a limit or not, one of two or three, a place in a part or beside it, and what a call asks
 -- of a chip. Assumes nothing.
-use Prim.Native.Nat.{ℕ, zero, suc, _+_, _-_, _<_, _≤_}
-use mathlib.Core.Path.{_≡_, refl, sym, _∙_}
-use mathlib.Core.Bool.{Bool, true, false}
+use Prim.Native.Nat.{ℕ, _+_, _-_, _<_, _≤_}
+use mathlib.Core.Path.{_≡_, sym, _∙_}
+use mathlib.Core.List.{List}
 use native.Mathlib.Omega.{arith}
 use borrow.Author.Tests.{ltb-true, ltb-false, eqb-true, eqb-false}
 use lib.Dec.{ltb, eqb}
@@ -11,7 +11,6 @@ use Rattle.vocabulary.proofs.Choice.{cases}
 use Rattle.vocabulary.proofs.Range.{clash, passes-holds, holds-passes}
 use Rattle.ms622424.specs.Ms622424.{Chip, lengths, ranges, identRanges, Call, writes, reads, blanks, pixels, signals}
 use Rattle.ms622424.specs.Ms622424.{resets, looks}
-use mathlib.Core.List.{List}
 use Rattle.theorem_scope_b.specs.Scope.{Lends, Asks}
 use Rattle.theorem_scope_b.proofs.Good.{sizes-hold, hold-sizes, ident-holds, holds-ident, ranges-hold}
 use Rattle.theorem_scope_b.proofs.Good.{hold-ranges}

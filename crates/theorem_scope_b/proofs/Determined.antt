@@ -1,7 +1,7 @@
 -- THE ROWS LEAVE NOTHING OPEN: a chip that meets them is the MS622424, in every call on every chip, refusals included.
 -- Assumes nothing.
-use Prim.Native.Nat.{ℕ, zero, suc, _+_, _^_, _<_, _≤_}
-use mathlib.Core.Path.{_≡_, refl, sym, subst}
+use Prim.Native.Nat.{ℕ, zero, suc, _^_, _<_}
+use mathlib.Core.Path.{_≡_, sym, subst}
 use native.Mathlib.Omega.{arith}
 use lib.ListN.{length}
 use Rattle.vocabulary.specs.Outcome.{Outcome}
@@ -40,18 +40,19 @@ module _ (f : Called) (s : Scope f) where
         (λ e. store 0 (λ h a. a .roomy m e) b l))
         (λ m. row (λ h a. a .no-store b l m))
 
-    unwritten : (select b : ℕ) → b < 256 → 3 < select → ¬ (select ≡ 7) → Same (writes select b) c
-    unwritten select b l h n = row (λ f a. a .no-write select b h n l)
+    unwritten : (select b : ℕ) → b < 256 → 3 < select → select < 7 → Same (writes select b) c
+    unwritten select b l h u = row (λ f a. a .no-write select b h u l)
 
     byte : (select b : ℕ) → b < 256 → Same (writes select b) c
     byte zero b l = row (λ h a. a .low-write b l)
     byte (suc zero) b l = row (λ h a. a .high-write b l)
     byte (suc (suc zero)) b l = store-any b l
     byte (suc (suc (suc zero))) b l = row (λ h a. a .command-write b l)
-    byte (suc (suc (suc (suc n)))) b l =
-        equals (suc (suc (suc (suc n)))) 7
-        (λ e. subst (λ (k : ℕ). Same (writes k b) c) (sym e) (row (λ h a. a .mode-on b l)))
-        (λ e. unwritten _ b l (omega arith) e)
+    byte (suc (suc (suc (suc zero)))) b l = unwritten 4 b l (omega arith) (omega arith)
+    byte (suc (suc (suc (suc (suc zero))))) b l = unwritten 5 b l (omega arith) (omega arith)
+    byte (suc (suc (suc (suc (suc (suc zero)))))) b l = unwritten 6 b l (omega arith) (omega arith)
+    byte (suc (suc (suc (suc (suc (suc (suc zero))))))) b l = row (λ h a. a .mode-on b l)
+    byte (suc (suc (suc (suc (suc (suc (suc (suc n)))))))) b l = row (λ h a. a .over-seven _ b (omega arith) l .0)
 
     fetch : Same (reads 2) c
     fetch =
@@ -75,7 +76,7 @@ module _ (f : Called) (s : Scope f) where
     read (suc (suc (suc (suc (suc zero))))) = buffer
     read (suc (suc (suc (suc (suc (suc zero)))))) = row (λ h a. a .revision-read)
     read (suc (suc (suc (suc (suc (suc (suc zero))))))) = row (λ h a. a .mode-off)
-    read (suc (suc (suc (suc (suc (suc (suc (suc n)))))))) = row (λ h a. a .no-read _ (omega arith))
+    read (suc (suc (suc (suc (suc (suc (suc (suc n)))))))) = row (λ h a. a .over-seven _ 0 (omega arith) (omega arith) .1)
 
     unseen : (mode word : ℕ) → ¬ ((mode < 4) × (word < 2 ^ 24)) → Same (pixels mode word) c
     unseen mode word n = row (λ h a. a .no-pixel mode word n)

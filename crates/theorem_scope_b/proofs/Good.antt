@@ -1,5 +1,4 @@
 -- The rows' own lengths and ranges are those that refusals 1 and 9 ask. Assumes nothing.
-use Prim.Native.Nat.{ℕ, _<_}
 use mathlib.Core.Path.{_≡_, refl}
 use mathlib.Core.Bool.{true}
 use mathlib.Core.List.{List, [], _∷_}

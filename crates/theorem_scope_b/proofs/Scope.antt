@@ -1,18 +1,18 @@
 -- THE MS622424 meets every row. Assumes nothing.
-use Prim.Native.Nat.{ℕ, zero, suc, _+_, _<_, _≤_, min}
+use Prim.Native.Nat.{ℕ, zero, suc, _+_, _<_, min}
 use mathlib.Core.Path.{_≡_, refl, sym, ap, _∙_}
 use mathlib.Core.List.{List, [], _∷_}
 use native.Mathlib.Omega.{arith}
 use lib.ListN.{length, getD}
-use Rattle.vocabulary.specs.Component.{red, green, blue}
+use Rattle.vocabulary.specs.Component.{red, green}
 use Rattle.vocabulary.specs.Face.{calledBy}
-use Rattle.vocabulary.specs.Outcome.{Outcome, accepting}
+use Rattle.vocabulary.specs.Outcome.{accepting, refusing}
 use Rattle.vocabulary.specs.Range.{below}
 use Rattle.vocabulary.proofs.Call.{goes-on}
 use Rattle.vocabulary.proofs.Range.{holds-passes}
 use Rattle.ms622424.specs.Ms622424.{Chip, InRange, ranges, registerAt, writable, written, readable, answers, stepped}
-use Rattle.ms622424.specs.Ms622424.{bufferByte, bufferStepped, made, moves, pixelByte, entryShown, signalRefusals}
-use Rattle.ms622424.specs.Ms622424.{writes, reads, blanks, pixels, signals, looks, called}
+use Rattle.ms622424.specs.Ms622424.{bufferByte, bufferStepped, made, pixelByte, entryShown, signalRefusals}
+use Rattle.ms622424.specs.Ms622424.{writes, reads, blanks, signals, looks, called}
 use Rattle.ms622424.proofs.Access.{is-red, is-green, is-blue}
 use Rattle.ms622424.proofs.Blank.{blank-too-many, blank-does}
 use Rattle.ms622424.proofs.Look as L
@@ -50,6 +50,20 @@ blank c r slots h =
     let n = min slots (length (c .waiting)) in
     sym (blank-does slots c r h (sym (moves-least slots n c refl ∙ ap (made n) (T.moved-is n c))))
 
+-- ---- selects that are not served
+module _ (c : Chip) (r : InRange c) (select : ℕ) where
+  no-write : (b : ℕ) → b < 256 → 3 < select → ¬ (select ≡ 7) → called (writes select b) c ≡ refusing 3 0 c
+  no-write b l h n =
+      sym (not-written select b c r l (λ z. omega arith) (λ z. omega arith) (λ z. omega arith) (λ z. omega arith) n)
+
+  over-seven : (b : ℕ) → 7 < select → b < 256
+      → (called (writes select b) c ≡ refusing 3 0 c) × (called (reads select) c ≡ refusing 3 0 c)
+  over-seven b h l = (
+    no-write b l (omega arith) (λ z. omega arith),
+    sym (not-read select c r (λ z. omega arith) (λ z. omega arith) (λ z. omega arith) (λ z. omega arith)
+        (λ z. omega arith) (λ z. omega arith) (λ z. omega arith) (λ z. omega arith)),
+  )
+
 accesses : (c : Chip) → Good c → Accesses called c
 unfolding registerAt writable written readable answers bufferByte bufferStepped stepped entryShown pixelByte
 accesses c g =
@@ -74,11 +88,8 @@ accesses c g =
       revision-read = sym (read-does 6 c r 6 refl refl refl refl refl);
       mode-on = λ b h. sym (write-does 7 b c r h 7 refl refl refl refl);
       mode-off = sym (read-does 7 c r 7 refl refl refl refl refl);
-      no-write = λ select b h n l.
-          sym (not-written select b c r l (λ z. omega arith) (λ z. omega arith) (λ z. omega arith) (λ z. omega arith) n);
-      no-read = λ select h.
-          sym (not-read select c r (λ z. omega arith) (λ z. omega arith) (λ z. omega arith) (λ z. omega arith)
-          (λ z. omega arith) (λ z. omega arith) (λ z. omega arith) (λ z. omega arith));
+      no-write = λ select b h u l. no-write c r select b l h (λ z. omega arith);
+      over-seven = over-seven c r;
       no-byte = no-byte c (g .sizes);
       blank = blank c r;
       no-blank = λ slots h. sym (blank-too-many slots c r h);

@@ -8,8 +8,8 @@ use native.Mathlib.Omega.{arith}
 use borrow.Author.Tests.{eq-eqb, ne-eqb}
 use lib.ListN.{length, getD, take, drop}
 use Rattle.vocabulary.specs.Component.{Component, red, green, blue, componentAt, put}
-use Rattle.vocabulary.specs.Outcome.{Outcome, accepting}
-use Rattle.ms622424.specs.Ms622424.{Chip, Entry, InRange, withPort, allStored, stepped, complete, Moves, made, roomMade}
+use Rattle.vocabulary.specs.Outcome.{accepting}
+use Rattle.ms622424.specs.Ms622424.{Chip, Entry, InRange, withPort, allStored, stepped, complete, made, roomMade}
 use Rattle.ms622424.specs.Ms622424.{registerAt, writable, readable, taken, answers, writes, reads, called}
 use Rattle.ms622424.proofs.Access.{is-red, is-green, is-blue}
 use Rattle.ms622424.proofs.Moves.{moves-least, room-forced, room-left}

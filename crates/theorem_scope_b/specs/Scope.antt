@@ -1,10 +1,10 @@
--- WHAT DOCUMENT 01 SAYS OF CHIP B, in its words and numbers, as rows: a call, and what it answers and leaves. It is said
--- of any `called`. Of Ms622424.antt it takes the names of the chip's parts and of its calls, and nothing that they do:
--- who ticks these rows against document 01 need not believe that file. The MS622424 meets them (`scope`), and a chip
--- that meets them is the MS622424 (`scope-determines`), refusals included.
+-- WHAT DOCUMENT 01 SAYS OF CHIP B, in its order, words and numbers, as rows: a call, and what it answers and leaves. It
+-- is said of any `called`. Of Ms622424.antt it takes the names of the chip's parts and of its calls, and nothing that
+-- they do: who ticks these rows against document 01 need not believe that file. The MS622424 meets them (`scope`), and a
+-- chip that meets them is the MS622424 (`scope-determines`), refusals included.
 use Prim.Native.Nat.{ℕ, _+_, _*_, _/_, _%_, _^_, _<_, _≤_, min}
 use mathlib.Core.Path.{_≡_}
-use mathlib.Core.Bool.{Bool, true, _&&_, _||_}
+use mathlib.Core.Bool.{true, _&&_, _||_}
 use mathlib.Core.List.{List, [], _∷_, _++_}
 use lib.Dec.{eqb, leb}
 use lib.ListN.{length, getD, set, take, drop}
@@ -72,8 +72,8 @@ Asks (signals s) c = Ranges c
 Asks resets c = IdentRanges (c .ident)
 Asks (looks place) c = Ranges c
 
--- ---- A chip with other numbers: address, counter and buffer; command and read mode; the queue and the map; no entry
--- waiting, and every place zero
+-- ---- A chip with other numbers: address and counter; the buffer; command and read mode; the queue and the map; no
+-- entry waiting, and every place zero
 
 abbrev pub parts : Port → Control → List Entry → List ℕ → Lent → Chip → Chip
 parts port control waiting map lent c = record {
@@ -85,9 +85,14 @@ parts port control waiting map lent c = record {
   lent = lent;
 }
 
-abbrev pub at : ℕ → ℕ → ℕ → ℕ → Chip → Chip
-at a n r g c =
-    parts (record { address = a; counter = n; red = r; green = g }) (c .control) (c .waiting) (c .map) (c .lent) c
+abbrev pub holding : Port → Chip → Chip
+holding p c = parts p (c .control) (c .waiting) (c .map) (c .lent) c
+
+abbrev pub at : ℕ → ℕ → Chip → Chip
+at a n c = holding (record { address = a; counter = n; red = c .port .red; green = c .port .green }) c
+
+abbrev pub buffering : ℕ → ℕ → Chip → Chip
+buffering r g c = holding (record { address = c .port .address; counter = c .port .counter; red = r; green = g }) c
 
 abbrev pub having : ℕ → ℕ → Chip → Chip
 having command mode c =
@@ -121,39 +126,34 @@ moved n c = queued (drop n (c .waiting)) (transferring (take n (c .waiting)) (c 
 
 -- ---- Select 2
 
--- "red, green to buffer; blue completes .., sets the counter to 0 and steps the address modulo 8,192"; "red and green
--- writes .. add 1 to the counter". The n oldest are moved first, and n is reported.
+-- "red, green to buffer; blue completes"; that "sets the counter to 0 and steps the address modulo 8,192"; "Red and
+-- green writes .. add 1 to the counter". The n oldest are moved first, and n is reported.
 pub record Stores (called : Call → Chip → Outcome Chip) (n : ℕ) (c : Chip) : Type 0 where
   pub red-write : (b : ℕ) → b < 256 → c .port .counter ≡ 0
-      → let p = c .port in
-      called (writes 2 b) c ≡ accepting 0 n (at (p .address) 1 b (p .green) (moved n c))
+      → called (writes 2 b) c ≡ accepting 0 n (at (c .port .address) 1 (buffering b (c .port .green) (moved n c)))
   pub green-write : (b : ℕ) → b < 256 → c .port .counter ≡ 1
-      → let p = c .port in
-      called (writes 2 b) c ≡ accepting 0 n (at (p .address) 2 (p .red) b (moved n c))
+      → called (writes 2 b) c ≡ accepting 0 n (at (c .port .address) 2 (buffering (c .port .red) b (moved n c)))
   pub blue-write : (b : ℕ) → b < 256 → c .port .counter ≡ 2
       → let p = c .port in
       called (writes 2 b) c
-      ≡ accepting 0 n
-      (at ((p .address + 1) % 8192) 0 (p .red) (p .green)
-      (completing (p .address) (p .red) (p .green) b (moved n c)))
+      ≡ accepting 0 n (at ((p .address + 1) % 8192) 0 (completing (p .address) (p .red) (p .green) b (moved n c)))
 
 -- "component of the map"; "A map read of blue steps likewise. Red and green .. map reads add 1 to the counter."
 pub record Fetches (called : Call → Chip → Outcome Chip) (c : Chip) : Type 0 where
   pub red-read : c .port .counter ≡ 0
-      → let p = c .port in
-      called (reads 2) c ≡ accepting (getD (c .map) (3 * p .address) 0) 0 (at (p .address) 1 (p .red) (p .green) c)
+      → let a = c .port .address in
+      called (reads 2) c ≡ accepting (getD (c .map) (3 * a) 0) 0 (at a 1 c)
   pub green-read : c .port .counter ≡ 1
-      → let p = c .port in
-      called (reads 2) c ≡ accepting (getD (c .map) (3 * p .address + 1) 0) 0 (at (p .address) 2 (p .red) (p .green) c)
+      → let a = c .port .address in
+      called (reads 2) c ≡ accepting (getD (c .map) (3 * a + 1) 0) 0 (at a 2 c)
   pub blue-read : c .port .counter ≡ 2
-      → let p = c .port in
-      called (reads 2) c
-      ≡ accepting (getD (c .map) (3 * p .address + 2) 0) 0 (at ((p .address + 1) % 8192) 0 (p .red) (p .green) c)
+      → let a = c .port .address in
+      called (reads 2) c ≡ accepting (getD (c .map) (3 * a + 2) 0) 0 (at ((a + 1) % 8192) 0 c)
 
 -- ---- Status, pixel, timing signals, looks
 
--- "bits 0, 1 the counter; bit 2 is 0 when the queue is empty; bit 3 is 0 when 32 or more wait (command bit 4 = 0) or 56
--- or more (= 1); bit 4 is 0 when 64 wait; bits 5..7 are 0"
+-- "bits 0, 1 the counter; bit 2 is 0 when the queue is empty; bit 3 is 0 when 32 or more wait (command bit 4 = 0) or
+-- 56 or more (= 1); bit 4 is 0 when 64 wait; bits 5..7 are 0"
 abbrev pub status : Chip → ℕ
 status c =
     let n = length (c .waiting) in
@@ -204,45 +204,42 @@ places c =
 -- ---- Every call of a good chip that is lent its map
 
 pub record Accesses (called : Call → Chip → Outcome Chip) (c : Chip) : Type 0 where
-  -- select 0: "address low, counter 0 | address low"
+  -- Select 0: "address low, counter 0 | address low"
   pub low-write : (b : ℕ) → b < 256
-      → let p = c .port in
-      called (writes 0 b) c ≡ accepting 0 0 (at (p .address / 256 * 256 + b) 0 (p .red) (p .green) c)
+      → called (writes 0 b) c ≡ accepting 0 0 (at (c .port .address / 256 * 256 + b) 0 c)
   pub low-read : called (reads 0) c ≡ accepting (c .port .address % 256) 0 c
-  -- 1: "low 5 bits to address high, counter 0 | address high"
+  -- Select 1: "low 5 bits to address high, counter 0 | address high"
   pub high-write : (b : ℕ) → b < 256
-      → let p = c .port in
-      called (writes 1 b) c ≡ accepting 0 0 (at (b % 32 * 256 + p .address % 256) 0 (p .red) (p .green) c)
+      → called (writes 1 b) c ≡ accepting 0 0 (at (b % 32 * 256 + c .port .address % 256) 0 c)
   pub high-read : called (reads 1) c ≡ accepting (c .port .address / 256) 0 c
-  -- 2: "Any accepted write to select 2 that finds 64 waiting first moves the four oldest into the map. The call reports
-  -- 4, else 0." 5: "write to 2 in read mode, read of 2 outside it"; 6: "read of 2 with entries waiting"
+  -- Select 2: "Any accepted write to select 2 that finds 64 waiting first moves the four oldest into the map. The call
+  -- reports 4, else 0." Refusal 5: "write to 2 in read mode, read of 2 outside it"; 6: "read of 2 with entries waiting"
   pub full : c .control .readmode ≡ 0 → length (c .waiting) ≡ 64 → Stores called 4 c
   pub roomy : c .control .readmode ≡ 0 → ¬ (length (c .waiting) ≡ 64) → Stores called 0 c
   pub no-store : (b : ℕ) → b < 256 → c .control .readmode ≡ 1 → called (writes 2 b) c ≡ refusing 5 0 c
   pub map-read : c .control .readmode ≡ 1 → length (c .waiting) ≡ 0 → Fetches called c
   pub outside-mode : c .control .readmode ≡ 0 → called (reads 2) c ≡ refusing 5 0 c
   pub still-waiting : c .control .readmode ≡ 1 → ¬ (length (c .waiting) ≡ 0) → called (reads 2) c ≡ refusing 6 0 c
-  -- 3: "command | command"; "bits 5..7 are ignored on write and read 0"
+  -- Select 3: "command | command"; "Command bits 5..7 are ignored on write and read 0"
   pub command-write : (b : ℕ) → b < 256
       → called (writes 3 b) c ≡ accepting 0 0 (having (b % 32) (c .control .readmode) c)
   pub command-read : called (reads 3) c ≡ accepting (c .control .command) 0 c
-  -- 4: "refused | status"
+  -- Select 4: "refused | status"
   pub status-read : called (reads 4) c ≡ accepting (status c) 0 c
-  -- 5: "refused | buffer"; "at counter 0 answers red and moves the counter to 1; at 1 it answers green and the counter
-  -- stays; at 2 it is refused"
-  pub buffer-red : c .port .counter ≡ 0
-      → let p = c .port in
-      called (reads 5) c ≡ accepting (p .red) 0 (at (p .address) 1 (p .red) (p .green) c)
+  -- Select 5: "refused | buffer"; "at counter 0 answers red and moves the counter to 1; at 1 it answers green and the
+  -- counter stays; at 2 it is refused"
+  pub buffer-red : c .port .counter ≡ 0 → called (reads 5) c ≡ accepting (c .port .red) 0 (at (c .port .address) 1 c)
   pub buffer-green : c .port .counter ≡ 1 → called (reads 5) c ≡ accepting (c .port .green) 0 c
   pub buffer-blue : c .port .counter ≡ 2 → called (reads 5) c ≡ refusing 3 0 c
-  -- 6: "refused | 16 × board + revision"
+  -- Select 6: "refused | 16 × board + revision"
   pub revision-read : called (reads 6) c ≡ accepting (16 * c .ident .board + c .ident .revision) 0 c
-  -- 7: "read mode on, data ignored | read mode off, answers 0"
+  -- Select 7: "read mode on, data ignored | read mode off, answers 0"
   pub mode-on : (b : ℕ) → b < 256 → called (writes 7 b) c ≡ accepting 0 0 (having (c .control .command) 1 c)
   pub mode-off : called (reads 7) c ≡ accepting 0 0 (having (c .control .command) 0 c)
-  -- 3: "select over 7, reserved or refused access"; 9: an argument outside its range, before 3
-  pub no-write : (select b : ℕ) → 3 < select → ¬ (select ≡ 7) → b < 256 → called (writes select b) c ≡ refusing 3 0 c
-  pub no-read : (select : ℕ) → 7 < select → called (reads select) c ≡ refusing 3 0 c
+  -- Refusal 3: "select over 7, .. refused access" (writes to 4, 5, 6); 9, which is tried before: no byte
+  pub no-write : (select b : ℕ) → 3 < select → select < 7 → b < 256 → called (writes select b) c ≡ refusing 3 0 c
+  pub over-seven : (select b : ℕ) → 7 < select → b < 256
+      → (called (writes select b) c ≡ refusing 3 0 c) × (called (reads select) c ≡ refusing 3 0 c)
   pub no-byte : (select b : ℕ) → 256 ≤ b → called (writes select b) c ≡ refusing 9 0 c
   -- "Blanking is given a number of slots, 0 to 65,535, moves the oldest entries and reports how many it moved: the
   -- smaller of slots and waiting."
@@ -250,8 +247,8 @@ pub record Accesses (called : Call → Chip → Outcome Chip) (c : Chip) : Type 
       → let n = min slots (length (c .waiting)) in
       called (blanks slots) c ≡ accepting 0 n (moved n c)
   pub no-blank : (slots : ℕ) → 65536 ≤ slots → called (blanks slots) c ≡ refusing 9 0 c
-  -- "Pixel, 24 bits, red in the low byte. Mode 0: the low 13 bits are the entry. Modes 1, 2, 3: .. at entry 7,424, 7,680
-  -- or 7,936 plus that byte."
+  -- "Pixel, 24 bits, red in the low byte. Mode 0: the low 13 bits are the entry. Modes 1, 2, 3: .. entry 7,424, 7,680 or
+  -- 7,936 plus that byte."
   pub mode-0 : (word : ℕ) → word < 2 ^ 24
       → let e = word % 2 ^ 13 in
       called (pixels 0 word) c ≡ accepting (onGuns e e e (c .map)) 0 c
@@ -268,7 +265,8 @@ pub record Accesses (called : Call → Chip → Outcome Chip) (c : Chip) : Type 
 -- ---- Every call of every chip
 
 pub record Scope (called : Call → Chip → Outcome Chip) : Type 0 where
-  -- 1: "a lent table hasn't its length"; 9: "a state .. outside its stated range, reserved bits or unused places not zero"
+  -- Refusal 1: "a lent table hasn't its length"; 9: "a state .. outside its stated range, reserved bits or unused places
+  -- not zero"
   pub one : (k : Call) (c : Chip) → ¬ Lends k c → called k c ≡ refusing 1 0 c
   pub nine : (k : Call) (c : Chip) → Lends k c → ¬ Asks k c → called k c ≡ refusing 9 0 c
   pub accesses : (c : Chip) → Good c → Accesses called c
@@ -277,6 +275,7 @@ pub record Scope (called : Call → Chip → Outcome Chip) : Type 0 where
       → called (signals s) c ≡ accepting (timing s (c .control .command)) 0 c
   pub no-signal : (s : ℕ) (c : Chip) → c .lent .places ≡ 64 → Ranges c → 16 ≤ s
       → called (signals s) c ≡ refusing 9 0 c
-  -- "Reset: queue empty, command 0x03, read mode off, address, counter and buffer 0; map, revision and board number kept."
+  -- "Reset: queue empty, command 0x03, read mode off, address, counter and buffer 0; map, revision and board number
+  -- kept."
   pub reset : (c : Chip) → c .lent .places ≡ 64 → IdentRanges (c .ident)
-      → called resets c ≡ accepting 0 0 (at 0 0 0 0 (having 0x03 0 (emptied c)))
+      → called resets c ≡ accepting 0 0 (at 0 0 (buffering 0 0 (having 0x03 0 (emptied c))))
