@@ -76,7 +76,8 @@ module _ (f : Called) (s : Scope f) where
     read (suc (suc (suc (suc (suc zero))))) = buffer
     read (suc (suc (suc (suc (suc (suc zero)))))) = row (λ h a. a .revision-read)
     read (suc (suc (suc (suc (suc (suc (suc zero))))))) = row (λ h a. a .mode-off)
-    read (suc (suc (suc (suc (suc (suc (suc (suc n)))))))) = row (λ h a. a .over-seven _ 0 (omega arith) (omega arith) .1)
+    read (suc (suc (suc (suc (suc (suc (suc (suc n)))))))) =
+        row (λ h a. a .over-seven _ 0 (omega arith) (omega arith) .1)
 
     unseen : (mode word : ℕ) → ¬ ((mode < 4) × (word < 2 ^ 24)) → Same (pixels mode word) c
     unseen mode word n = row (λ h a. a .no-pixel mode word n)

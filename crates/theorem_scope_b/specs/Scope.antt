@@ -1,7 +1,7 @@
--- WHAT DOCUMENT 01 SAYS OF CHIP B, in its order, words and numbers, as rows: a call, and what it answers and leaves. It
--- is said of any `called`. Of Ms622424.antt it takes the names of the chip's parts and of its calls, and nothing that
--- they do: who ticks these rows against document 01 need not believe that file. The MS622424 meets them (`scope`), and a
--- chip that meets them is the MS622424 (`scope-determines`), refusals included.
+-- WHAT DOCUMENT 01 SAYS OF CHIP B, in its order, words and numbers, as rows: a call, and what it answers and leaves.
+-- It is said of any `called`. Of Ms622424.antt it takes the names of the chip's parts and of its calls, and nothing
+-- that they do: who ticks these rows against document 01 need not believe that file. The MS622424 meets them (`scope`),
+-- and a chip that meets them is the MS622424 (`scope-determines`), refusals included.
 use Prim.Native.Nat.{ℕ, _+_, _*_, _/_, _%_, _^_, _<_, _≤_, min}
 use mathlib.Core.Path.{_≡_}
 use mathlib.Core.Bool.{true, _&&_, _||_}
@@ -213,7 +213,8 @@ pub record Accesses (called : Call → Chip → Outcome Chip) (c : Chip) : Type 
       → called (writes 1 b) c ≡ accepting 0 0 (at (b % 32 * 256 + c .port .address % 256) 0 c)
   pub high-read : called (reads 1) c ≡ accepting (c .port .address / 256) 0 c
   -- Select 2: "Any accepted write to select 2 that finds 64 waiting first moves the four oldest into the map. The call
-  -- reports 4, else 0." Refusal 5: "write to 2 in read mode, read of 2 outside it"; 6: "read of 2 with entries waiting"
+  -- reports 4, else 0." Refusal 5: "write to 2 in read mode, read of 2 outside it"; 6: "read of 2 with entries
+  -- waiting"
   pub full : c .control .readmode ≡ 0 → length (c .waiting) ≡ 64 → Stores called 4 c
   pub roomy : c .control .readmode ≡ 0 → ¬ (length (c .waiting) ≡ 64) → Stores called 0 c
   pub no-store : (b : ℕ) → b < 256 → c .control .readmode ≡ 1 → called (writes 2 b) c ≡ refusing 5 0 c
@@ -247,8 +248,8 @@ pub record Accesses (called : Call → Chip → Outcome Chip) (c : Chip) : Type 
       → let n = min slots (length (c .waiting)) in
       called (blanks slots) c ≡ accepting 0 n (moved n c)
   pub no-blank : (slots : ℕ) → 65536 ≤ slots → called (blanks slots) c ≡ refusing 9 0 c
-  -- "Pixel, 24 bits, red in the low byte. Mode 0: the low 13 bits are the entry. Modes 1, 2, 3: .. entry 7,424, 7,680 or
-  -- 7,936 plus that byte."
+  -- "Pixel, 24 bits, red in the low byte. Mode 0: the low 13 bits are the entry. Modes 1, 2, 3: .. entry 7,424, 7,680
+  -- or 7,936 plus that byte."
   pub mode-0 : (word : ℕ) → word < 2 ^ 24
       → let e = word % 2 ^ 13 in
       called (pixels 0 word) c ≡ accepting (onGuns e e e (c .map)) 0 c
@@ -265,8 +266,8 @@ pub record Accesses (called : Call → Chip → Outcome Chip) (c : Chip) : Type 
 -- ---- Every call of every chip
 
 pub record Scope (called : Call → Chip → Outcome Chip) : Type 0 where
-  -- Refusal 1: "a lent table hasn't its length"; 9: "a state .. outside its stated range, reserved bits or unused places
-  -- not zero"
+  -- Refusal 1: "a lent table hasn't its length"; 9: "a state .. outside its stated range, reserved bits or unused
+  -- places not zero"
   pub one : (k : Call) (c : Chip) → ¬ Lends k c → called k c ≡ refusing 1 0 c
   pub nine : (k : Call) (c : Chip) → Lends k c → ¬ Asks k c → called k c ≡ refusing 9 0 c
   pub accesses : (c : Chip) → Good c → Accesses called c
