@@ -1,9 +1,9 @@
 -- The rows' status byte, timing signals and pixel are the chip's. Assumes nothing.
 use Prim.Native.Nat.{ℕ, zero, suc, _+_, _*_, _<_, min, max}
-use mathlib.Core.Path.{_≡_, refl, ap}
+use mathlib.Core.Path.{_≡_, refl, ap, _∙_}
 use mathlib.Core.Bool.{Bool, true, false}
 use native.Mathlib.Omega.{arith}
-use lib.Dec.{eqb}
+use lib.Dec.{eqb, leb}
 use lib.ListN.{length}
 use Rattle.vocabulary.specs.Choice.{pick}
 use Rattle.vocabulary.specs.Line.{line}
@@ -28,8 +28,9 @@ unfolding statusByte statusOf mark
 status-is c =
     let n = length (c .waiting) in
     let m = mark-by-line (line (c .control .command) 4) (omega arith) in
-    rw (weighed 4 (eqb n 0), weighed 16 (eqb n 64), m)
-    (ap (λ (x : ℕ). c .port .counter + pick (eqb n 0) 0 4 + x + pick (eqb n 64) 0 16) (weighed 8 _))
+    rw (weighed 4 (eqb n 0), weighed 16 (eqb n 64))
+    (ap (λ (x : ℕ). c .port .counter + pick (eqb n 0) 0 4 + x + pick (eqb n 64) 0 16)
+    (weighed 8 _ ∙ ap (λ (x : ℕ). pick (leb x n) 0 8) m))
 
 -- ---- timing signals
 
