@@ -1,7 +1,7 @@
 -- WHAT DOCUMENT 01 SAYS OF CHIP B, in its order, words and numbers, as rows: a call, and what it answers and leaves.
 -- It is said of any `called`. Of Ms622424.antt it takes the names of the chip's parts and of its calls, and nothing
--- that they do: who ticks these rows against document 01 need not believe that file. The MS622424 meets them (`scope`),
--- and a chip that meets them is the MS622424 (`scope-determines`), refusals included.
+-- that they do: who ticks these rows against document 01 need not believe that file. The MS622424 meets them
+-- (`scope`), and a chip that meets them is the MS622424 (`scope-determines`), refusals included.
 use Prim.Native.Nat.{ℕ, _+_, _*_, _/_, _%_, _^_, _<_, _≤_, min}
 use mathlib.Core.Path.{_≡_}
 use mathlib.Core.Bool.{true, _&&_, _||_}
@@ -34,7 +34,7 @@ InMap [] = Unit
 InMap (e ∷ es) = (e .address < 8192) × InMap es
 
 -- "an address below 8,192, counter 0..2, red and green buffer, command register, read mode, .. and a queue of up to 64
--- entries, .. unused places zero" (`right`); reserved bits zero: command bits 5..7
+-- entries, .. unused places zero" (`right`); 9: "reserved bits or unused places not zero" (command bits 5..7)
 pub record Ranges (c : Chip) : Type 0 where
   pub address : c .port .address < 8192
   pub counter : c .port .counter < 3
@@ -141,11 +141,9 @@ pub record Stores (called : Call → Chip → Outcome Chip) (n : ℕ) (c : Chip)
 -- "component of the map"; "A map read of blue steps likewise. Red and green .. map reads add 1 to the counter."
 pub record Fetches (called : Call → Chip → Outcome Chip) (c : Chip) : Type 0 where
   pub red-read : c .port .counter ≡ 0
-      → let a = c .port .address in
-      called (reads 2) c ≡ accepting (getD (c .map) (3 * a) 0) 0 (at a 1 c)
+      → called (reads 2) c ≡ accepting (getD (c .map) (3 * c .port .address) 0) 0 (at (c .port .address) 1 c)
   pub green-read : c .port .counter ≡ 1
-      → let a = c .port .address in
-      called (reads 2) c ≡ accepting (getD (c .map) (3 * a + 1) 0) 0 (at a 2 c)
+      → called (reads 2) c ≡ accepting (getD (c .map) (3 * c .port .address + 1) 0) 0 (at (c .port .address) 2 c)
   pub blue-read : c .port .counter ≡ 2
       → let a = c .port .address in
       called (reads 2) c ≡ accepting (getD (c .map) (3 * a + 2) 0) 0 (at ((a + 1) % 8192) 0 c)
@@ -213,8 +211,7 @@ pub record Accesses (called : Call → Chip → Outcome Chip) (c : Chip) : Type 
       → called (writes 1 b) c ≡ accepting 0 0 (at (b % 32 * 256 + c .port .address % 256) 0 c)
   pub high-read : called (reads 1) c ≡ accepting (c .port .address / 256) 0 c
   -- Select 2: "Any accepted write to select 2 that finds 64 waiting first moves the four oldest into the map. The call
-  -- reports 4, else 0." Refusal 5: "write to 2 in read mode, read of 2 outside it"; 6: "read of 2 with entries
-  -- waiting"
+  -- reports 4, else 0." 5: "write to 2 in read mode, read of 2 outside it"; 6: "read of 2 with entries waiting"
   pub full : c .control .readmode ≡ 0 → length (c .waiting) ≡ 64 → Stores called 4 c
   pub roomy : c .control .readmode ≡ 0 → ¬ (length (c .waiting) ≡ 64) → Stores called 0 c
   pub no-store : (b : ℕ) → b < 256 → c .control .readmode ≡ 1 → called (writes 2 b) c ≡ refusing 5 0 c
@@ -266,8 +263,7 @@ pub record Accesses (called : Call → Chip → Outcome Chip) (c : Chip) : Type 
 -- ---- Every call of every chip
 
 pub record Scope (called : Call → Chip → Outcome Chip) : Type 0 where
-  -- Refusal 1: "a lent table hasn't its length"; 9: "a state .. outside its stated range, reserved bits or unused
-  -- places not zero"
+  -- Refusal 1: "a lent table hasn't its length"; 9: "a state .. outside its stated range"
   pub one : (k : Call) (c : Chip) → ¬ Lends k c → called k c ≡ refusing 1 0 c
   pub nine : (k : Call) (c : Chip) → Lends k c → ¬ Asks k c → called k c ≡ refusing 9 0 c
   pub accesses : (c : Chip) → Good c → Accesses called c
@@ -276,7 +272,6 @@ pub record Scope (called : Call → Chip → Outcome Chip) : Type 0 where
       → called (signals s) c ≡ accepting (timing s (c .control .command)) 0 c
   pub no-signal : (s : ℕ) (c : Chip) → c .lent .places ≡ 64 → Ranges c → 16 ≤ s
       → called (signals s) c ≡ refusing 9 0 c
-  -- "Reset: queue empty, command 0x03, read mode off, address, counter and buffer 0; map, revision and board number
-  -- kept."
+  -- "queue empty, command 0x03, read mode off, address, counter and buffer 0; map, revision and board number kept"
   pub reset : (c : Chip) → c .lent .places ≡ 64 → IdentRanges (c .ident)
       → called resets c ≡ accepting 0 0 (at 0 0 (buffering 0 0 (having 0x03 0 (emptied c))))
