@@ -1,0 +1,7 @@
+pub mod Good
+pub mod Asked
+pub mod Select
+pub mod Shown
+pub mod Scope
+pub mod Cases
+pub mod Determined
