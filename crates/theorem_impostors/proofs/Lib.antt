@@ -1,3 +1,4 @@
 pub mod Law
 pub mod ChipA
+pub mod ChipB
 pub mod ChipC

@@ -5,10 +5,11 @@ use mathlib.Core.Path.{_≡_, sym, subst}
 use native.Mathlib.Omega.{arith}
 use lib.ListN.{length}
 use Rattle.vocabulary.specs.Outcome.{Outcome}
+use Rattle.vocabulary.proofs.Cases.{under, equals, two, three, within}
 use Rattle.vocabulary.proofs.Outcome.{determined}
 use Rattle.ms622424.specs.Ms622424.{Chip, Call, writes, reads, blanks, pixels, signals, resets, looks, called}
 use Rattle.theorem_scope_b.specs.Scope.{Lends, Asks, Good, Stores, Accesses, Scope}
-use Rattle.theorem_scope_b.proofs.Cases.{under, equals, two, three, within, lends, asks}
+use Rattle.theorem_scope_b.proofs.Cases.{lends, asks}
 use Rattle.theorem_scope_b.proofs.Scope.{scope}
 
 -- any chip

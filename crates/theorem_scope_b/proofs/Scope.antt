@@ -1,7 +1,7 @@
 -- THE MS622424 meets every row. Assumes nothing.
-use Prim.Native.Nat.{ℕ, zero, suc, _+_, _<_, min}
+use Prim.Native.Nat.{ℕ, _+_, _<_, min}
 use mathlib.Core.Path.{_≡_, refl, sym, ap, _∙_}
-use mathlib.Core.List.{List, [], _∷_}
+use mathlib.Core.List.{_∷_}
 use native.Mathlib.Omega.{arith}
 use lib.ListN.{length, getD}
 use Rattle.vocabulary.specs.Component.{red, green}
@@ -9,6 +9,7 @@ use Rattle.vocabulary.specs.Face.{calledBy}
 use Rattle.vocabulary.specs.Outcome.{accepting, refusing}
 use Rattle.vocabulary.specs.Range.{below}
 use Rattle.vocabulary.proofs.Call.{goes-on}
+use Rattle.vocabulary.proofs.Cases.{any}
 use Rattle.vocabulary.proofs.Range.{holds-passes}
 use Rattle.ms622424.specs.Ms622424.{Chip, InRange, ranges, registerAt, writable, written, readable, answers, stepped}
 use Rattle.ms622424.specs.Ms622424.{bufferByte, bufferStepped, made, pixelByte, entryShown, signalRefusals}
@@ -26,16 +27,6 @@ use Rattle.theorem_scope_b.proofs.Good.{ranges-hold, ident-holds, good-
 use Rattle.theorem_scope_b.proofs.Asked.{one, nine, is-long-queue, no-byte, no-signal}
 use Rattle.theorem_scope_b.proofs.Select as T
 use Rattle.theorem_scope_b.proofs.Shown.{status-is, timing-is}
-
--- what is told of each number of a list is told of any
-abbrev Each : (ℕ → ℕ → Type 0) → List ℕ → Type 0
-Each T [] = Unit
-Each T (n ∷ l) = T 0 n × Each (λ i. T (suc i)) l
-
-any : (T : ℕ → ℕ → Type 0) (l : List ℕ) → Each T l → (i : ℕ) → i < length l → T i (getD l i 0)
-any T [] e i h = absurd (let z : ⊥ = omega arith in z)
-any T (n ∷ l) e zero h = e .0
-any T (n ∷ l) e (suc i) h = any (λ j. T (suc j)) l (e .1) i (omega arith)
 
 state-places : (c : Chip) → InRange c → (i : ℕ) → i < 9 → called (looks i) c ≡ accepting (getD (places c) i 0) 0 c
 state-places c r =
