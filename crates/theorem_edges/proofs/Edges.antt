@@ -1,10 +1,9 @@
 -- THE EDGES: p1 to p12. Assumes nothing.
 use Prim.Native.Nat.{ℕ, _+_, _<_, _≤_}
 use mathlib.Core.Path.{_≡_, refl, sym, ap, subst, _∙_}
-use mathlib.Core.Bool.{true}
 use native.Mathlib.Omega.{arith}
 use lib.Dec.{leb, eqb}
-use lib.ListN.{replicate, length-replicate}
+use lib.ListN.{length-replicate}
 use Rattle.vocabulary.specs.Choice.{pick}
 use Rattle.vocabulary.specs.Outcome.{Outcome, accepting}
 use Rattle.vocabulary.proofs.Every.{every-replicate}
@@ -12,19 +11,19 @@ use Rattle.vocabulary.proofs.Face.{called-clear, called-does}
 use Rattle.vocabulary.proofs.Range.{passes-holds}
 use Rattle.expand.specs.Expand.{ten}
 use Rattle.expand.proofs.Width.{expansion-accepted}
-use Rattle.ms622424.specs.Ms622424.{Chip, chip, port, control, Entry, InRange, inMap, places, fresh, registerAt}
+use Rattle.ms622424.specs.Ms622424.{Chip, Entry, InRange, inMap, places, fresh, registerAt}
 use Rattle.ms622424.specs.Ms622424.{readable, answers, activeLow, mark, statusOf, statusByte, resets, refusals, does}
 use Rattle.ms622424.proofs.Read.{read-does}
 use Rattle.ms622424.proofs.Kept.{fresh-in-range}
-use Rattle.theorem_edges.specs.Edges.{Answers, Fresh, Status, Edges}
+use Rattle.theorem_edges.specs.Edges.{Answers, Fresh, Status, Edges, black, waitingChip}
 
 -- the status byte at counter 0, of command bit 4 and how many wait
 edgeStatus : ℕ → ℕ → ℕ
 edgeStatus bit waiting =
     0 +
-    activeLow (eqb waiting 0) 4 +
-    activeLow (leb (pick (eqb bit 0) 32 56) waiting) 8 +
-    activeLow (eqb waiting 64) 16
+    activeLow 2 (eqb waiting 0) +
+    activeLow 3 (leb (pick (eqb bit 0) 32 56) waiting) +
+    activeLow 4 (eqb waiting 64)
 
 status-is : (bit waiting : ℕ) → Status bit waiting (edgeStatus bit waiting)
 unfolding registerAt readable answers statusByte statusOf mark edgeStatus
@@ -58,20 +57,13 @@ edges = record {
   p12 = status-answers 1 56 0x14 refl;
 }
 
--- ---- such chips are there: so many waiting, at counter 0, in range
-abbrev zeroEntry : Entry
-zeroEntry = record { address = 0; red = 0; green = 0; blue = 0 }
-
-abbrev pub waitingChip : ℕ → ℕ → Chip
-waitingChip command waiting =
-    chip (port 0 0 0 0) (control command 0) (record { revision = 0; board = 0 }) (replicate waiting zeroEntry)
-    (replicate 24576 0) (record { places = places; right = true })
+-- ---- such chips are there
 
 pub edge-met : (command waiting : ℕ) → command < 32 → waiting ≤ 64 → InRange (waitingChip command waiting)
 edge-met command waiting h w =
-    let many = length-replicate {A = Entry} waiting zeroEntry in
+    let many = length-replicate {A = Entry} waiting black in
     let size = length-replicate {A = ℕ} 24576 0 in
-    let inside = every-replicate inMap waiting zeroEntry refl in
+    let inside = every-replicate inMap waiting black refl in
     record {
       address = omega arith;
       counter = omega arith;
