@@ -423,7 +423,7 @@ does (looks place) c = looked (found (lookPlaces c) place) c
 abbrev pub called : Call → Chip → Outcome Chip
 called k c = calledBy refusals does k c
 
--- ---- Not the chip: the ranges as facts, which calls are looks, what the code is lent and answers
+-- ---- Not the chip: the ranges as facts, calls by their kind, what the code is lent and answers
 
 -- what `lengths` and `ranges` ask, as facts by name (proofs/InRange.antt: they say the same of a chip)
 pub record InRange (c : Chip) : Type 0 where

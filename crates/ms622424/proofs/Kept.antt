@@ -2,7 +2,7 @@
 -- nothing.
 use Prim.Native.Nat.{ℕ, _^_, _<_}
 use mathlib.Core.Path.{_≡_, refl, sym, subst, _∙_}
-use mathlib.Core.Bool.{Bool, true, false}
+use mathlib.Core.Bool.{true}
 use mathlib.Core.List.{List, [], _∷_, _++_}
 use native.Mathlib.Omega.{arith}
 use borrow.Author.Tests.{lt-ltb}
@@ -21,7 +21,7 @@ use Rattle.ms622424.specs.Ms622424.{ranges, InRange, selected, stepped, 
 use Rattle.ms622424.specs.Ms622424.{roomMade, taken, written, bufferStepped, answers, fresh, registerAt}
 use Rattle.ms622424.specs.Ms622424.{Register, addressLow, addressHigh, palette, command, status, buffer}
 use Rattle.ms622424.specs.Ms622424.{revision, initialization, none, Call, writes, reads, blanks, pixels}
-use Rattle.ms622424.specs.Ms622424.{signals, resets, looks, isLook, refusals, does, called}
+use Rattle.ms622424.specs.Ms622424.{signals, resets, looks, isPixel, isSignals, isLook, refusals, does, called}
 use Rattle.ms622424.proofs.InRange.{in-range}
 use Rattle.ms622424.proofs.Moves.{all-stored-length, moves-are, room-cases, room-space}
 
@@ -117,24 +117,6 @@ called-keeps-range (looks place) c h =
     called-holds refusals does (looks place) c InRange h (λ t. subst InRange (sym (look-leaves place c)) h)
 
 -- ---- the calls that no other call can tell from not being made
-abbrev pub isPixel : Call → Bool
-isPixel (writes select byte) = false
-isPixel (reads select) = false
-isPixel (blanks slots) = false
-isPixel (pixels mode word) = true
-isPixel (signals s) = false
-isPixel resets = false
-isPixel (looks place) = false
-
-abbrev pub isSignals : Call → Bool
-isSignals (writes select byte) = false
-isSignals (reads select) = false
-isSignals (blanks slots) = false
-isSignals (pixels mode word) = false
-isSignals (signals s) = true
-isSignals resets = false
-isSignals (looks place) = false
-
 pixel-stays : (k : Call) (c : Chip) → isPixel k ≡ true → called k c .left ≡ c
 pixel-stays (writes select byte) c e = clash (sym e)
 pixel-stays (reads select) c e = clash (sym e)

@@ -427,7 +427,26 @@ does (looks place) c = looked (found (lookPlaces c) place) c
 abbrev pub called : Call → Chip → Outcome Chip
 called k c = calledBy refusals does k c
 
--- ---- Not the chip: which calls are looks, and the ranges as facts
+-- ---- Not the chip: calls by their kind, and the ranges as facts
+
+-- which calls are pixels, signals, looks
+abbrev pub isPixel : Call → Bool
+isPixel (writes select byte) = false
+isPixel (reads select) = false
+isPixel (blanks slots) = false
+isPixel (pixels mode word) = true
+isPixel (signals s) = false
+isPixel resets = false
+isPixel (looks place) = false
+
+abbrev pub isSignals : Call → Bool
+isSignals (writes select byte) = false
+isSignals (reads select) = false
+isSignals (blanks slots) = false
+isSignals (pixels mode word) = false
+isSignals (signals s) = true
+isSignals resets = false
+isSignals (looks place) = false
 
 abbrev pub isLook : Call → Bool
 isLook (writes select byte) = false

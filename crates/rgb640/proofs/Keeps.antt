@@ -1,7 +1,7 @@
 -- What each call leaves as it was, refused or not. Assumes nothing.
 use Prim.Native.Nat.{ℕ, _+_, _*_}
 use mathlib.Core.Path.{_≡_, refl, sym}
-use mathlib.Core.Bool.{Bool, true, false}
+use mathlib.Core.Bool.{true}
 use lib.ListN.{getD}
 use Rattle.vocabulary.specs.Run.{Unnoticed}
 use Rattle.vocabulary.proofs.Choice.{picks-first, picks-second, cases}
@@ -11,8 +11,10 @@ use Rattle.vocabulary.proofs.Range.{clash}
 use Rattle.vocabulary.proofs.Run.{unnoticed}
 use Rattle.rgb640.specs.Rgb640.{Chip, offset, threeBytes, follows, taken, paletteTaken, Space, updateControl}
 use Rattle.rgb640.specs.Rgb640.{paletteWrite, paletteRead, nowhere, spaceOf, Register, indexLow, indexHigh}
-use Rattle.rgb640.specs.Rgb640.{indexData, notServed, registerAt, served, dataWritten, wrote, told, answers, Call}
-use Rattle.rgb640.specs.Rgb640.{writes, reads, resets, looks, isLook, refusals, does, called}
+use Rattle.rgb640.specs.Rgb640.{indexData, notServed, registerAt, served, dataWritten, wrote, told, answers}
+use Rattle.rgb640.specs.Rgb640.{Call}
+use Rattle.rgb640.specs.Rgb640.{writes, reads, resets, looks, isIndex, isIndexRead, isLook, refusals, does}
+use Rattle.rgb640.specs.Rgb640.{called}
 use Rattle.rgb640.proofs.Index.{space-holds}
 use Rattle.rgb640.proofs.InRange.{look-leaves, reset-leaves}
 
@@ -24,18 +26,6 @@ does-accepts resets c = refl
 does-accepts (looks place) c = refl
 
 -- ---- Reads of ports 4 and 5 leave their chip, and so do looks: no other call can tell whether they were made
-abbrev pub isIndex : Register → Bool
-isIndex indexLow = true
-isIndex indexHigh = true
-isIndex indexData = false
-isIndex notServed = false
-
-abbrev pub isIndexRead : Call → Bool
-isIndexRead (writes port b) = false
-isIndexRead (reads port) = isIndex (registerAt port)
-isIndexRead resets = false
-isIndexRead (looks place) = false
-
 index-read-stays : (r : Register) (c : Chip) → isIndex r ≡ true → answers r c .left ≡ c
 unfolding told
 index-read-stays indexLow c e = refl

@@ -365,7 +365,20 @@ does (looks place) c = looked (found (lookPlaces c) place) c
 abbrev pub called : Call → Chip → Outcome Chip
 called k c = calledBy refusals does k c
 
--- ---- Not the chip: which calls are looks, the ranges as facts, what the code answers
+-- ---- Not the chip: calls by their kind, the ranges as facts, what the code answers
+-- which calls are reads of ports 4 and 5, and which are looks
+abbrev pub isIndex : Register → Bool
+isIndex indexLow = true
+isIndex indexHigh = true
+isIndex indexData = false
+isIndex notServed = false
+
+abbrev pub isIndexRead : Call → Bool
+isIndexRead (writes port b) = false
+isIndexRead (reads port) = isIndex (registerAt port)
+isIndexRead resets = false
+isIndexRead (looks place) = false
+
 abbrev pub isLook : Call → Bool
 isLook (writes port byte) = false
 isLook (reads port) = false
