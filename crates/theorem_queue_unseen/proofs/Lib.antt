@@ -1,5 +1,8 @@
 pub mod Settled
 pub mod Shown
+pub mod Found
+pub mod Bytes
+pub mod Short
 pub mod Unseen
 pub mod Made
 pub mod Accepting
