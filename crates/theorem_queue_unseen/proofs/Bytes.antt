@@ -7,7 +7,7 @@ use mathlib.Core.List.{List, [], _∷_}
 use native.Mathlib.Omega.{arith}
 use borrow.Author.Tests.{eqb-true, ltb-true, lt-ltb}
 use lib.Dec.{ltb, eqb}
-use lib.ListN.{length, getD}
+use lib.ListN.{length}
 use Rattle.vocabulary.specs.Choice.{pick}
 use Rattle.vocabulary.specs.Component.{Component, red, green, blue, part, oneOf, colourWord}
 use Rattle.vocabulary.specs.Every.{every}
@@ -18,8 +18,8 @@ use Rattle.vocabulary.proofs.Component.{part-below, word-red, word-green}
 use Rattle.vocabulary.proofs.Every.{every-append, every-at}
 use Rattle.vocabulary.proofs.Face.{called-clear}
 use Rattle.vocabulary.proofs.Range.{passes-holds, both, pair}
-use Rattle.ms622424.specs.Ms622424.{Chip, Entry, ranges}
-use Rattle.ms622424.specs.Ms622424.{Call, writes, reads, blanks, pixels, signals, resets, looks, refusals, does, called}
+use Rattle.ms622424.specs.Ms622424.{Chip, Entry, ranges, refusals, does, called}
+use Rattle.ms622424.specs.Ms622424.{Call, writes, reads, blanks, pixels, signals, resets, looks}
 use Rattle.theorem_queue_unseen.specs.Unseen.{completes, completedBy, completedIn, lastFor, byteAt}
 use Rattle.theorem_queue_unseen.specs.Unseen.{byteOf, areBytes}
 
@@ -28,7 +28,8 @@ abbrev ofBytes : Entry → Bool
 ofBytes e = ltb (e .red) 256 && (ltb (e .green) 256 && ltb (e .blue) 256)
 
 -- what is chosen by a test passes where both do
-every-picked : {b : Bool} (es : List Entry) → (b ≡ true → every ofBytes es ≡ true) → every ofBytes (pick b es []) ≡ true
+every-picked : {b : Bool} (es : List Entry) → (b ≡ true → every ofBytes es ≡ true)
+    → every ofBytes (pick b es []) ≡ true
 unfolding every
 every-picked {b} es h =
     cases b (λ e. rw (picks-first es [] e) (h e)) (λ e. rw (picks-second es [] e) refl)

@@ -1,9 +1,9 @@
--- What a map holds once colours were stored, byte by byte: at each address and gun the last of them, or what was there.
--- Assumes nothing.
+-- What a map holds once colours were stored, byte by byte: at each address and gun the last of them, or what was
+-- there. Assumes nothing.
 use Prim.Native.Nat.{ℕ, _+_, _*_, _<_}
 use mathlib.Core.Path.{_≡_, refl, sym, ap, _∙_}
 use mathlib.Core.Bool.{true, not}
-use mathlib.Core.List.{List, [], _∷_}
+use mathlib.Core.List.{List, [], _∷_, _++_}
 use native.Mathlib.Omega.{arith}
 use borrow.Author.Tests.{eqb-true, eqb-false, not-true}
 use lib.Dec.{eqb}
@@ -47,3 +47,10 @@ last-elsewhere [] a k byte h = refl
 last-elsewhere (e ∷ es) a k byte h =
     let t = both (not (eqb (e .address) a)) _ h in
     ap (lastFor a k es) (picks-second _ _ (not-true _ (t .0))) ∙ last-elsewhere es a k byte (t .1)
+
+-- a list and then another: the last of the second, or of the first
+pub last-append : (es fs : List Entry) (a : ℕ) (k : Component) (byte : ℕ)
+    → lastFor a k (es ++ fs) byte ≡ lastFor a k fs (lastFor a k es byte)
+unfolding lastFor
+last-append [] fs a k byte = refl
+last-append (e ∷ es) fs a k byte = last-append es fs a k _

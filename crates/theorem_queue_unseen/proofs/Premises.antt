@@ -17,7 +17,7 @@ use Rattle.vocabulary.proofs.Choice.{picks-second}
 use Rattle.vocabulary.proofs.Every.{every-replicate}
 use Rattle.vocabulary.proofs.Range.{clash}
 use Rattle.vocabulary.proofs.Run.{after-append, along-append, run-keeps}
-use Rattle.ms622424.specs.Ms622424.{Chip, InRange, written, Moves, port, control}
+use Rattle.ms622424.specs.Ms622424.{Chip, InRange, written, answers, Moves, port, control}
 use Rattle.ms622424.specs.Ms622424.{Call, writes, reads, blanks, pixels, resets, called}
 use Rattle.ms622424.proofs.Blank.{blank-does}
 use Rattle.ms622424.proofs.Kept.{called-keeps-range}
@@ -57,7 +57,8 @@ emptied-no-reset c = ((λ h. clash (sym (h .0))), ((λ h. clash (sym (h .0))), t
 reads-high : (mode word n : ℕ) (c : Chip) → Filling n c → ReadsNoWaiting (suc mode) word c
 unfolding ReadsNoWaiting gunEntry
 reads-high mode word n c f k =
-    let high = picks-second (word % 8192) (7168 + 256 * suc mode + byteOf k word) (ne-eqb (suc mode) 0 (λ z. omega arith)) in
+    let high = picks-second (word % 8192) (7168 + 256 * suc mode + byteOf k word)
+    (ne-eqb (suc mode) 0 (λ z. omega arith)) in
     f .low (gunEntry (suc mode) word k) (omega (arith, high))
 
 -- ---- a full queue
@@ -73,7 +74,7 @@ module _ (c : Chip) (h : InRange c) (full : length (c .waiting) ≡ 64) where
       )
 
   read-after : Accepted called (reads 2) (after called emptied c)
-  unfolding after written
+  unfolding after written answers
   read-after =
       let d = called (blanks 64) c .left in
       let hd = called-keeps-range (blanks 64) c h in
@@ -81,9 +82,10 @@ module _ (c : Chip) (h : InRange c) (full : length (c .waiting) ≡ 64) where
       let none : d .waiting ≡ [] =
       ap (λ (o : Outcome Chip). o .left .waiting) (sym (blank-does 64 c h (omega arith) (sym (moves-are 64 c))))
       ∙ drop-of-length-le (c .waiting) {i = 64} (omega arith) in
-      table-read (called (writes 7 0) d .left) (called-keeps-range (writes 7 0) d hd)
+      ap (λ (o : Outcome Chip). o .refusal)
+      (table-read (called (writes 7 0) d .left) (called-keeps-range (writes 7 0) d hd)
       (ap (λ (o : Outcome Chip). o .left .control .readmode) done)
-      (ap (λ (o : Outcome Chip). o .left .waiting) done ∙ none)
+      (ap (λ (o : Outcome Chip). o .left .waiting) done ∙ none))
 
 pub premises-met : (before : Chip) (bytes : List ℕ) → Accepted called resets before → length (before .map) ≡ 24576
     → areBytes bytes ≡ true → length bytes ≡ 192 → Met (called resets before .left) (forPalette bytes)

@@ -10,8 +10,8 @@ use Rattle.vocabulary.specs.Run.{after, gathered, Along, Accepted}
 use Rattle.vocabulary.proofs.Choice.{cases, picks-first, picks-second}
 use Rattle.vocabulary.proofs.Face.{called-clear, called-holds, refused-leaves}
 use Rattle.vocabulary.proofs.Range.{passes-holds}
-use Rattle.ms622424.specs.Ms622424.{Chip, lengths}
-use Rattle.ms622424.specs.Ms622424.{Call, writes, reads, blanks, pixels, signals, resets, looks, refusals, does, called}
+use Rattle.ms622424.specs.Ms622424.{Chip, lengths, refusals, does, called}
+use Rattle.ms622424.specs.Ms622424.{Call, writes, reads, blanks, pixels, signals, resets, looks}
 use Rattle.theorem_queue_unseen.specs.Unseen.{isReset, NoReset, completes, completedBy, completedIn}
 
 module _ (c : Chip) (wrong : ¬ (length (c .map) ≡ 24576)) where

@@ -13,12 +13,13 @@ use Rattle.vocabulary.specs.Run.{after, gathered, Along, Accepted}
 use Rattle.vocabulary.proofs.Choice.{cases}
 use Rattle.vocabulary.proofs.Face.{called-does}
 use Rattle.vocabulary.proofs.Range.{clash}
-use Rattle.ms622424.specs.Ms622424.{Chip, allStored, gunShown, refusals, does, called}
+use Rattle.ms622424.specs.Ms622424.{Chip, Entry, allStored, gunShown, refusals, does, called}
 use Rattle.ms622424.specs.Ms622424.{Call, writes, reads, blanks, pixels, signals, resets, looks}
 use Rattle.ms622424.proofs.Moves.{all-stored-length, all-stored-append}
 use Rattle.ms622424.proofs.Pixel.{shown-in-map}
 use Rattle.theorem_queue_unseen.specs.Unseen.{isReset, NoReset, completedBy, completedIn, settled, immediate}
-use Rattle.theorem_queue_unseen.specs.Unseen.{byteAt, byteOf, areBytes, gunEntry, colourShown, ReadsNoWaiting, component, QueueUnseen}
+use Rattle.theorem_queue_unseen.specs.Unseen.{lastFor, byteAt, byteOf, areBytes, gunEntry, colourShown}
+use Rattle.theorem_queue_unseen.specs.Unseen.{ReadsNoWaiting, component, QueueUnseen}
 use Rattle.theorem_queue_unseen.proofs.Settled.{call-settled}
 use Rattle.theorem_queue_unseen.proofs.Shown.{settled-empty, shown-entry, pixel-range, pixel-shown}
 use Rattle.theorem_queue_unseen.proofs.Shown.{read-range, read-component}
@@ -36,6 +37,24 @@ run-settled (k ∷ calls) c (h, hs) =
     run-settled calls d hs
     ∙ (ap (allStored (completedIn calls d)) (call-settled k c h)
     ∙ sym (all-stored-append (completedBy k c) (completedIn calls d) (settled c)))
+
+-- the same byte by byte, said without storing: what stands at an address changes by the last completed colour for it
+pub run-found : (calls : List Call) (c : Chip) (a : ℕ) (k : Component) → NoReset calls c → length (c .map) ≡ 24576
+    → a < 8192
+    → let now = after called calls c in
+    byteAt a k (now .waiting) (now .map) ≡ lastFor a k (completedIn calls c) (byteAt a k (c .waiting) (c .map))
+unfolding settled
+run-found calls c a k h l low =
+    let now = after called calls c in
+    let done = completedIn calls c in
+    let run = run-settled calls c h in
+    let ls = all-stored-length (c .waiting) (c .map) in
+    let ln = sym (all-stored-length (now .waiting) (now .map)) ∙ (ap (λ (m : List ℕ). length m) run
+    ∙ all-stored-length done (settled c)) in
+    sym (all-found (now .waiting) (now .map) a k (omega (arith, l, ls, ln)))
+    ∙ (ap (λ (m : List ℕ). getD m (3 * a + part k) 0) run
+    ∙ (all-found done (settled c) a k (omega (arith, l, ls))
+    ∙ ap (lastFor a k done) (all-found (c .waiting) (c .map) a k (omega (arith, l)))))
 
 -- ---- just after an accepted reset nothing waits
 reset-empty : (k : Call) (c : Chip) → isReset k ≡ true → Accepted called k c → called k c .left .waiting ≡ []
@@ -83,14 +102,12 @@ module _ (start : Chip) (calls : List Call) (h : NoReset calls start) (empty : s
 
   last-same : (a : ℕ) (k : Component) → a < 8192
       → byteAt a k (now .waiting) (now .map) ≡ byteAt a k (completedIn calls start) (start .map)
-  unfolding settled
+  unfolding lastFor
   last-same a k low =
       cases (eqb (length (start .map)) 24576)
       (λ e.
-      let l = eqb-true (length (start .map)) 24576 e in
-      let ln = length-same in
-      sym (all-found (now .waiting) (now .map) a k (omega (arith, l, ln)))
-      ∙ (ap (λ (m : List ℕ). getD m (3 * a + part k) 0) settles ∙ immediate-found a k low l))
+      run-found calls start a k h (eqb-true (length (start .map)) 24576 e) low
+      ∙ ap (λ (es : List Entry). lastFor a k (completedIn calls start) (byteAt a k es (start .map))) empty)
       (λ e.
       let (same, none) = short-run calls start (eqb-false (length (start .map)) 24576 e) h in
       rw (same, none, empty) refl)

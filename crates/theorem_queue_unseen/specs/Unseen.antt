@@ -63,7 +63,7 @@ immediate calls start = allStored (completedIn calls start) (start .map)
 
 -- ---- The same byte by byte, said without storing: no definition by which the chip stores stands in it
 
--- at an address and a gun the byte of the LAST of some colours that has the address; where none has it, the byte before
+-- at an address and a gun the byte of the LAST of some colours that has the address; if none has it, the byte before
 unfoldable pub lastFor : ℕ → Component → List Entry → ℕ → ℕ
 lastFor a k [] byte = byte
 lastFor a k (e ∷ es) byte = lastFor a k es (pick (eqb (e .address) a) (oneOf k (e .red) (e .green) (e .blue)) byte)

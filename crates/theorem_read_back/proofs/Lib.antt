@@ -1,1 +1,4 @@
-pub mod ReadBack
+pub mod Told
+pub mod StoreB
+pub mod ReadBackB
+pub mod ReadBackC
