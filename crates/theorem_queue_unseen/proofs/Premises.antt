@@ -8,6 +8,7 @@ use native.Mathlib.Omega.{arith}
 use borrow.Author.Tests.{ne-eqb}
 use lib.Dec.{ltb}
 use lib.ListN.{length, replicate, length-replicate, drop-of-length-le}
+use Rattle.vocabulary.specs.Every.{every}
 use Rattle.vocabulary.specs.Face.{calledBy}
 use Rattle.vocabulary.specs.Outcome.{Outcome, answeredAt}
 use Rattle.vocabulary.specs.Range.{fails, meets}
@@ -116,6 +117,10 @@ zeros = record {
   map = replicate 24576 0;
   lent = record { places = 64; right = true };
 }
+
+pub zeros-in-range : InRange zeros
+unfolding zeros every
+zeros-in-range = let size = length-replicate {A = ℕ} 24576 0 in search arith
 
 pub one-run : Met (called resets zeros .left) (forPalette (replicate 192 0))
 unfolding zeros calledBy refusalOf answeredAt fails meets

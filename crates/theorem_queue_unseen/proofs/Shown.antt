@@ -89,7 +89,7 @@ none : {A : Type 0} (l : List A) → length l ≡ 0 → l ≡ []
 none [] e = refl
 none (x ∷ l) e = absurd (omega arith)
 
-read-waiting : (c : Chip) → Accepted called (reads 2) c → c .waiting ≡ []
+pub read-waiting : (c : Chip) → Accepted called (reads 2) c → c .waiting ≡ []
 read-waiting c a =
     let clear = called-clear refusals does (reads 2) c a in
     let empty : not (eqb (length (c .waiting)) 0) ≡ false = search in

@@ -67,7 +67,7 @@ reset-empty (looks place) c e a = clash (sym e)
 reset-empty resets c e a = ap (λ (o : Outcome Chip). o .left .waiting) (called-does refusals does resets c a)
 
 -- ---- a component's own, and its number
-one-of : (k : Component) (f : Component → ℕ) → oneOf k (f red) (f green) (f blue) ≡ f k
+pub one-of : (k : Component) (f : Component → ℕ) → oneOf k (f red) (f green) (f blue) ≡ f k
 one-of red f = refl
 one-of green f = refl
 one-of blue f = refl

@@ -1,9 +1,9 @@
 -- What is written to chip B reads back: a written colour is the last that waits, demand 3's account of a run carries
 -- it through the calls in between, and blanking leaves it in the map. Assumes nothing.
 use Prim.Native.Nat.{ℕ, _+_, _*_, _%_, _<_, _≤_, min}
-use mathlib.Core.Path.{_≡_, refl, sym, ap, _∙_}
+use mathlib.Core.Path.{_≡_, refl, sym, ap, subst, _∙_}
 use mathlib.Core.Bool.{Bool, true, not}
-use mathlib.Core.List.{List, [], _∷_}
+use mathlib.Core.List.{List, [], _∷_, _++_}
 use native.Mathlib.Omega.{arith}
 use lib.Dec.{eqb}
 use lib.ListN.{length, getD, drop-of-length-le}
@@ -30,15 +30,15 @@ use Rattle.theorem_read_back.specs.Told.{tells, counts}
 use Rattle.theorem_read_back.specs.ReadBackB.{storing, Apart, ReadsBack}
 use Rattle.theorem_read_back.proofs.Told.{Tells, done, then, heard}
 use Rattle.theorem_read_back.proofs.StoreB.{kept, pointed, pointed-range, first-half, second-half, points}
-use Rattle.theorem_read_back.proofs.StoreB.{three, red-written, green-written, blue-written, stored-last}
-use Rattle.theorem_read_back.proofs.StoreB.{begun, begins}
+use Rattle.theorem_read_back.proofs.StoreB.{room, three, red-written, green-written, blue-written}
+use Rattle.theorem_read_back.proofs.StoreB.{waits-last, stored-last, begun, begins}
 
 -- ---- Blanking and three reads
 module _ (c : Chip) (x : InRange c) (slots : ℕ) (enough : length (c .waiting) ≤ slots) (few : slots < 65536) where
-  abbrev emptied : Chip
+  abbrev pub emptied : Chip
   emptied = withQueue [] (settled c) c
 
-  blanks-all : called (blanks slots) c ≡ accepting 0 (length (c .waiting)) emptied
+  pub blanks-all : called (blanks slots) c ≡ accepting 0 (length (c .waiting)) emptied
   unfolding settled
   blanks-all =
       let n : min slots (length (c .waiting)) ≡ length (c .waiting) = omega arith in
@@ -52,7 +52,7 @@ module _ (c : Chip) (x : InRange c) (on : c .control .readmode ≡ 1) (empty : c
   abbrev at : ℕ → Chip
   at n = withPort (port (c .port .address) n (c .port .red) (c .port .green)) c
 
-  abbrev next : Chip
+  abbrev pub next : Chip
   next = withPort (port ((c .port .address + 1) % 8192) 0 (c .port .red) (c .port .green)) c
 
   red-read : called (reads 2) c ≡ accepting (getD (c .map) (3 * c .port .address + 0) 0) 0 (at 1)
@@ -67,7 +67,7 @@ module _ (c : Chip) (x : InRange c) (on : c .control .readmode ≡ 1) (empty : c
   unfolding answers stepped componentAt
   blue-read = table-read (at 2) (kept _ (kept _ x red-read) green-read) on empty
 
-  recalls : {r g b : ℕ} → ((k : Component) → getD (c .map) (3 * c .port .address + part k) 0 ≡ oneOf k r g b)
+  pub recalls : {r g b : ℕ} → ((k : Component) → getD (c .map) (3 * c .port .address + part k) 0 ≡ oneOf k r g b)
       → Tells called (reads 2 ∷ reads 2 ∷ reads 2 ∷ []) c (tells r ∷ tells g ∷ tells b ∷ [])
   recalls {r} {g} {b} f =
       then (red-read ∙ ap (λ (v : ℕ). accepting v 0 (at 1)) (f red))
@@ -89,13 +89,13 @@ module _ (c : Chip) (x : InRange c) (a r g b : ℕ) (ha : a < 8192) (hr : r < 25
   abbrev off : InRange (begun c x)
   off = kept _ x (begins c x)
 
-  abbrev from : Chip
+  abbrev pub from : Chip
   from = pointed (begun c x) off a ha
 
-  abbrev from-range : InRange from
+  abbrev pub from-range : InRange from
   from-range = pointed-range (begun c x) off a ha
 
-  stores : Tells called (storing a r g b) c
+  pub stores : Tells called (storing a r g b) c
       (tells 0 ∷ tells 0 ∷ tells 0 ∷ counts (pick (eqb (length (c .waiting)) 64) 4 0) ∷ tells 0 ∷ tells 0 ∷ [])
   stores =
       then (begins c x) (points (begun c x) off a ha
@@ -103,10 +103,10 @@ module _ (c : Chip) (x : InRange c) (a r g b : ℕ) (ha : a < 8192) (hr : r < 25
       (then (green-written from from-range refl refl r g b hr hg hb)
       (then (blue-written from from-range refl refl r g b hr hg hb) done))))
 
-  abbrev full : Chip
+  abbrev pub full : Chip
   full = three from from-range refl refl r g b hr hg hb
 
-  leads : after called (storing a r g b) c ≡ full
+  pub leads : after called (storing a r g b) c ≡ full
   leads =
       let left : Outcome Chip → Chip = λ o. o .left in
       after-next called _ _ c (ap left (begins c x))
@@ -116,6 +116,15 @@ module _ (c : Chip) (x : InRange c) (a r g b : ℕ) (ha : a < 8192) (hr : r < 25
       ∙ (after-next called _ _ _ (ap left (green-written from from-range refl refl r g b hr hg hb))
       ∙ (after-next called _ _ _ (ap left (blue-written from from-range refl refl r g b hr hg hb))
       ∙ after-none called full)))))
+
+  pub full-range : InRange full
+  full-range = subst InRange leads (run-keeps called InRange called-keeps-range (storing a r g b) c x)
+
+  abbrev pub older : List Entry
+  older = room from from-range refl refl r g b hr hg hb .waiting
+
+  pub full-waits : full .waiting ≡ older ++ (record { address = a; red = r; green = g; blue = b } ∷ [])
+  full-waits = waits-last from from-range refl refl r g b hr hg hb
 
   -- what the map then holds, whatever was done in between: demand 3's account
   module _ (between : List Call) where
@@ -141,7 +150,7 @@ module _ (c : Chip) (x : InRange c) (a r g b : ℕ) (ha : a < 8192) (hr : r < 25
         ∙ (run-found between stored a k resets (stored-range .size) ha
         ∙ (last-elsewhere (completedIn between stored) a k _ others
         ∙ (ap (λ (d : Chip). byteAt a k (d .waiting) (d .map)) leads
-        ∙ stored-last from from-range refl refl r g b hr hg hb k)))
+        ∙ stored-last from from-range refl refl r g b hr hg hb k (full .map))))
 
 pub reads-back : ReadsBack called
 unfolding written

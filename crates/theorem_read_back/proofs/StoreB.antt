@@ -82,7 +82,7 @@ room-count c =
 -- from a chip outside read mode, pointed at an address
 module _ (c : Chip) (x : InRange c) (off : c .control .readmode ≡ 0) (at-red : c .port .counter ≡ 0)
     (r g b : ℕ) (hr : r < 256) (hg : g < 256) (hb : b < 256) where
-  abbrev room : Chip
+  abbrev pub room : Chip
   room = roomMade c .after
 
   abbrev one : Chip
@@ -117,13 +117,19 @@ module _ (c : Chip) (x : InRange c) (off : c .control .readmode ≡ 0) (at-red :
       ∙ ap (λ (k : Component). accepting 0 0 (taken k b two)) (is-blue 2 (λ z. omega arith) (λ z. omega arith))
 
   -- the colour is the last that waits
-  pub stored-last : (k : Component) → byteAt (c .port .address) k (three .waiting) (three .map) ≡ oneOf k r g b
-  unfolding taken complete lastFor stepped
-  stored-last k =
-      let e : Entry = record { address = room .port .address; red = r; green = g; blue = b } in
-      let same = room-keeps c ℕ (λ d. d .port .address) (λ es m. refl) in
-      last-append (room .waiting) (e ∷ []) (c .port .address) k _
-      ∙ picks-first (oneOf k r g b) _ (eq-eqb (room .port .address) (c .port .address) same)
+  pub waits-last : three .waiting
+      ≡ room .waiting ++ (record { address = c .port .address; red = r; green = g; blue = b } ∷ [])
+  unfolding taken complete stepped
+  waits-last =
+      ap (λ (n : ℕ). room .waiting ++ (record { address = n; red = r; green = g; blue = b } ∷ []))
+      (room-keeps c ℕ (λ d. d .port .address) (λ es m. refl))
+
+  pub stored-last : (k : Component) (m : List ℕ) → byteAt (c .port .address) k (three .waiting) m ≡ oneOf k r g b
+  unfolding lastFor
+  stored-last k m =
+      ap (λ (es : List Entry). byteAt (c .port .address) k es m) waits-last
+      ∙ (last-append (room .waiting) _ (c .port .address) k _
+      ∙ picks-first (oneOf k r g b) _ (eq-eqb (c .port .address) (c .port .address) refl))
 
 -- read mode off
 module _ (c : Chip) (x : InRange c) where

@@ -12,9 +12,14 @@ module _ {C K : Type 0} (step : K → C → Outcome C) where
     then : {k : K} {c d : C} {v n : ℕ} {ks : List K} {rs : List Reply} → step k c ≡ accepting v n d
         → Tells ks d rs → Tells (k ∷ ks) c (reply 0 v n 0 ∷ rs)
 
+  -- an accepted call, and then the others
+  pub told-next : {k : K} {c d : C} {v n : ℕ} (ks : List K) → step k c ≡ accepting v n d
+      → replies step (k ∷ ks) c ≡ reply 0 v n 0 ∷ replies step ks d
+  unfolding gathered
+  told-next ks e = ap (λ (o : Outcome C). telling o ∷ replies step ks (o .left)) e
+
   pub heard : {ks : List K} {c : C} {rs : List Reply} → Tells ks c rs → replies step ks c ≡ rs
   unfolding gathered
   heard done = refl
   heard (then {v = v} {n = n} {ks = ks} e h) =
-      ap (λ (o : Outcome C). telling o ∷ replies step ks (o .left)) e
-      ∙ ap (λ (l : List Reply). reply 0 v n 0 ∷ l) (heard h)
+      told-next ks e ∙ ap (λ (l : List Reply). reply 0 v n 0 ∷ l) (heard h)

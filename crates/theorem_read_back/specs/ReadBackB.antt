@@ -1,7 +1,7 @@
 -- What is written to chip B reads back, whatever waited before and whatever is done in between. It is said of any chip
 -- that takes B's calls, by what a call leaves and tells (`step`; B's own is `called`), so that it can be put to wrong
--- ones. It refuses a chip whose transfer stores nothing, and one that exchanges the guns in buffer, place and map alike
--- (proofs/Impostors.antt).
+-- ones. It refuses a chip whose transfer stores nothing, and one that exchanges the guns in buffer, place and map
+-- alike (proofs/Impostors.antt).
 use Prim.Native.Nat.{ℕ, _/_, _%_, _<_, _≤_}
 use mathlib.Core.Path.{_≡_}
 use mathlib.Core.Bool.{true, not}
