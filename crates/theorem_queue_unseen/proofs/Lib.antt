@@ -1,7 +1,7 @@
 pub mod Settled
 pub mod Shown
-pub mod Found
-pub mod Bytes
+pub mod Stored
+pub mod ShownBytes
 pub mod Short
 pub mod Unseen
 pub mod Made

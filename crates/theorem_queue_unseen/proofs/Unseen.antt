@@ -23,8 +23,8 @@ use Rattle.theorem_queue_unseen.specs.Unseen.{ReadsNoWaiting, component,
 use Rattle.theorem_queue_unseen.proofs.Settled.{call-settled}
 use Rattle.theorem_queue_unseen.proofs.Shown.{settled-empty, shown-entry, pixel-range, pixel-shown}
 use Rattle.theorem_queue_unseen.proofs.Shown.{read-range, read-component}
-use Rattle.theorem_queue_unseen.proofs.Found.{all-found}
-use Rattle.theorem_queue_unseen.proofs.Bytes.{byte-at, word-byte}
+use Rattle.theorem_queue_unseen.proofs.Stored.{all-found}
+use Rattle.theorem_queue_unseen.proofs.ShownBytes.{byte-at, word-byte}
 use Rattle.theorem_queue_unseen.proofs.Short.{short-run}
 
 -- ---- a run

@@ -20,7 +20,7 @@ use Rattle.ms622424.specs.Ms622424.{Call, writes, reads, blanks, pixels, signal
 use Rattle.ms622424.proofs.Kept.{called-keeps-range}
 use Rattle.ms622424.proofs.Moves.{all-stored-length}
 use Rattle.theorem_queue_unseen.specs.Unseen.{lastFor, byteAt}
-use Rattle.theorem_queue_unseen.proofs.Found.{all-found, last-append}
+use Rattle.theorem_queue_unseen.proofs.Stored.{all-found, last-append}
 use Rattle.theorem_queue_unseen.proofs.Premises.{zeros, zeros-in-range}
 use Rattle.theorem_read_back.specs.ReadBackB.{storing, ReadsBack}
 use Rattle.theorem_read_back.proofs.StoreB.{kept}

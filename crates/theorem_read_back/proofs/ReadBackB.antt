@@ -24,7 +24,7 @@ use Rattle.ms622424.proofs.Kept.{called-keeps-range}
 use Rattle.ms622424.proofs.Moves.{moves-are}
 use Rattle.theorem_queue_unseen.specs.Unseen.{NoReset, completedBy, completedIn, settled, byteAt}
 use Rattle.theorem_queue_unseen.proofs.Accepting.{initialized, table-read}
-use Rattle.theorem_queue_unseen.proofs.Found.{all-found, last-elsewhere}
+use Rattle.theorem_queue_unseen.proofs.Stored.{all-found, last-elsewhere}
 use Rattle.theorem_queue_unseen.proofs.Unseen.{run-found}
 use Rattle.theorem_read_back.specs.Told.{tells, counts}
 use Rattle.theorem_read_back.specs.ReadBackB.{storing, Apart, ReadsBack}

@@ -23,7 +23,7 @@ use Rattle.ms622424.proofs.Read.{read-does}
 use Rattle.ms622424.proofs.Write.{write-does}
 use Rattle.theorem_queue_unseen.specs.Unseen.{lastFor, byteAt}
 use Rattle.theorem_queue_unseen.proofs.Accepting.{palette-accepted}
-use Rattle.theorem_queue_unseen.proofs.Found.{last-append}
+use Rattle.theorem_queue_unseen.proofs.Stored.{last-append}
 use Rattle.theorem_read_back.specs.Told.{tells}
 use Rattle.theorem_read_back.specs.ReadBackB.{pointing}
 use Rattle.theorem_read_back.proofs.Told.{Tells, then}
