@@ -64,7 +64,7 @@ pixel-range mode word c a =
     let (m, (w, r)) = passes-holds (below mode 4 ∷ below word (2 ^ 24) ∷ ranges c) (t .1 .0) in
     (in-range c (passes-holds (lengths c) (t .0)) r, (m, w))
 
-guns-show : (mode word : ℕ) (c : Chip) → mode < 4 → word < 2 ^ 24 → ReadsNoWaiting mode word c → (k : Component)
+pub guns-show : (mode word : ℕ) (c : Chip) → mode < 4 → word < 2 ^ 24 → ReadsNoWaiting mode word c → (k : Component)
     → gunShown mode word (c .map) k ≡ gunShown mode word (settled c) k
 unfolding ReadsNoWaiting gunShown settled
 guns-show mode word c m w h k =

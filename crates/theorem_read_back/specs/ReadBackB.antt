@@ -35,8 +35,9 @@ module _ (step : Call → Chip → Outcome Chip) where
       × (every (λ (e : Entry). not (eqb (e .address) a)) (whereAccepted step completes k c) ≡ true)
 
   -- For every address and three bytes: the six calls that write them are accepted, the red byte counting four moves
-  -- where 64 waited; then come any such calls; then blanking with a slot for each that waits (64 always do), which counts
-  -- them all, read mode, the address again, and three reads: all are accepted, and the reads answer the three bytes.
+  -- where 64 waited; then come any such calls; then blanking with a slot for each that waits (64 always do), which
+  -- counts them all, read mode, the address again, and three reads: all are accepted, and the reads answer the three
+  -- bytes.
   abbrev pub ReadsBack : Type 0
   ReadsBack =
       (c : Chip) → InRange c → (a r g b : ℕ) → a < entries → r < 256 → g < 256 → b < 256
