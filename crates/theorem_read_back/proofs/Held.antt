@@ -15,8 +15,7 @@ use Rattle.vocabulary.specs.Reply.{Reply, telling}
 use Rattle.vocabulary.specs.Run.{after, gathered, Along, replies, Keeps}
 use Rattle.vocabulary.proofs.Range.{both}
 use Rattle.vocabulary.proofs.Run.{run-keeps}
-use Rattle.ms622424.specs.Ms622424.{Chip, InRange, control, withControl}
-use Rattle.ms622424.specs.Ms622424.{written}
+use Rattle.ms622424.specs.Ms622424.{Chip, InRange, control, withControl, written}
 use Rattle.ms622424.specs.Ms622424.{Call, writes, reads, blanks, pixels, signals, resets, looks, called}
 use Rattle.theorem_queue_unseen.proofs.Accepting.{initialized}
 use Rattle.theorem_queue_unseen.proofs.Shown.{read-waiting}

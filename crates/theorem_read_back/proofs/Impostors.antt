@@ -23,7 +23,6 @@ use Rattle.theorem_queue_unseen.specs.Unseen.{lastFor, byteAt}
 use Rattle.theorem_queue_unseen.proofs.Stored.{all-found, last-append}
 use Rattle.theorem_queue_unseen.proofs.Premises.{zeros, zeros-in-range}
 use Rattle.theorem_read_back.specs.ReadBackB.{storing, ReadsBack}
-use Rattle.theorem_read_back.proofs.StoreB.{kept}
 use Rattle.theorem_read_back.proofs.ReadBackB.{blanks-all, full, full-range, older, full-waits, leads}
 use Rattle.theorem_read_back.proofs.Held.{movesColours, must-hold}
 
@@ -52,7 +51,7 @@ module _ (leaves : ℕ → Chip → List ℕ) where
     spoilt-keeps (writes select byte) c h = called-keeps-range (writes select byte) c h
     spoilt-keeps (reads select) c h = called-keeps-range (reads select) c h
     spoilt-keeps (blanks slots) c h =
-        let kept = called-keeps-range (blanks slots) c h in
+        let range = called-keeps-range (blanks slots) c h in
         let size : length (pick (eqb (called (blanks slots) c .refusal) 0) (leaves slots c) (c .map)) ≡ 24576 =
         cases (eqb (called (blanks slots) c .refusal) 0)
         (λ e. ap (λ (m : List ℕ). length m) (picks-first _ _ e) ∙ (sized slots c ∙ h .size))

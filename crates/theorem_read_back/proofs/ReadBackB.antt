@@ -35,7 +35,7 @@ use Rattle.theorem_read_back.proofs.StoreB.{waits-last, stored-last, be
 
 -- ---- Blanking and three reads
 module _ (c : Chip) (x : InRange c) (slots : ℕ) (enough : length (c .waiting) ≤ slots) (few : slots < 65536) where
-  abbrev pub emptied : Chip
+  abbrev emptied : Chip
   emptied = withQueue [] (settled c) c
 
   pub blanks-all : called (blanks slots) c ≡ accepting 0 (length (c .waiting)) emptied
@@ -52,7 +52,7 @@ module _ (c : Chip) (x : InRange c) (on : c .control .readmode ≡ 1) (empty : c
   abbrev at : ℕ → Chip
   at n = withPort (port (c .port .address) n (c .port .red) (c .port .green)) c
 
-  abbrev pub next : Chip
+  abbrev next : Chip
   next = withPort (port ((c .port .address + 1) % 8192) 0 (c .port .red) (c .port .green)) c
 
   red-read : called (reads 2) c ≡ accepting (getD (c .map) (3 * c .port .address + 0) 0) 0 (at 1)
@@ -89,13 +89,13 @@ module _ (c : Chip) (x : InRange c) (a r g b : ℕ) (ha : a < 8192) (hr : r < 25
   abbrev off : InRange (begun c x)
   off = kept _ x (begins c x)
 
-  abbrev pub from : Chip
+  abbrev from : Chip
   from = pointed (begun c x) off a ha
 
-  abbrev pub from-range : InRange from
+  abbrev from-range : InRange from
   from-range = pointed-range (begun c x) off a ha
 
-  pub stores : Tells called (storing a r g b) c
+  stores : Tells called (storing a r g b) c
       (tells 0 ∷ tells 0 ∷ tells 0 ∷ counts (pick (eqb (length (c .waiting)) 64) 4 0) ∷ tells 0 ∷ tells 0 ∷ [])
   stores =
       then (begins c x) (points (begun c x) off a ha
