@@ -1,6 +1,7 @@
 -- THE QUEUE CAN'T BE SEEN: what demand 3 says, over the definitions that the MS622424's calls promise (Ms622424.antt)
--- and over runs of any calls (Run.antt of the vocabulary). Looks may stand anywhere in a run: one completes nothing,
--- and is no read of the table, since it answers from the map as stored (request P5).
+-- and over runs of any calls (Run.antt of the vocabulary); as an equation of maps, and byte by byte without the chip's
+-- own storing. Looks may stand anywhere in a run: one completes nothing, and is no read of the table, since it answers
+-- from the map as stored (request P5).
 use Prim.Native.Nat.{ℕ, _+_, _*_, _/_, _%_, _<_}
 use mathlib.Core.Path.{_≡_}
 use mathlib.Core.Bool.{Bool, true, false, not, _&&_}
