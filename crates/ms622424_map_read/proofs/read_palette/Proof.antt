@@ -12,8 +12,8 @@ read-palette-spec =
     (tie.spec (λ c κs. search needs) (λ c q h. outside-refused _ q _ _ h (c .before .if1 .taken) (c .refused .ensures))
     (λ c κs. search needs)
     (λ c q h.
-    let some = c .before .if2 .taken in
-    waiting-refused _ q _ _ h (c .before .before .before .if1 .left) (λ z. omega (arith, some, z))
+    let waits = c .before .if2 .taken in
+    waiting-refused _ q _ _ h (c .before .before .before .if1 .left) (λ z. omega (arith, waits, z))
     (c .refused2 .ensures))
     (λ c. search needs) (λ c. search needs) (λ c. search needs) (λ c. search needs) (λ c κs. search needs)
     (λ c. search needs) (λ c κs. search needs) (λ c q h. search (palette-served, needs)))
