@@ -13,15 +13,15 @@ use Rattle.vocabulary.proofs.Component.{put-length, put-own}
 use Rattle.ms622424.specs.Ms622424.{Chip, withQueue, Entry, InRange, stored, allStored, complete, Moves, made}
 use Rattle.ms622424.specs.Ms622424.{slotted, moves, roomMade}
 
-pub all-stored-length : (es : List Entry) (m : List ℕ) → length (allStored es m) ≡ length m
-unfolding allStored
-all-stored-length [] m = refl
-all-stored-length (e ∷ es) m = all-stored-length es (stored e m) ∙ put-length _ _ _ _ m
-
 -- a stored colour is found in its entry, component by component
 pub stored-own : (e : Entry) (m : List ℕ) → 3 * e .address + 2 < length m → (k : Component)
     → getD (stored e m) (3 * e .address + part k) 0 ≡ oneOf k (e .red) (e .green) (e .blue)
 stored-own e m h k = put-own (e .address) _ _ _ m h k
+
+pub all-stored-length : (es : List Entry) (m : List ℕ) → length (allStored es m) ≡ length m
+unfolding allStored
+all-stored-length [] m = refl
+all-stored-length (e ∷ es) m = all-stored-length es (stored e m) ∙ put-length _ _ _ _ m
 
 -- a list and then another is the two in a row
 pub all-stored-append : (es fs : List Entry) (m : List ℕ) → allStored (es ++ fs) m ≡ allStored fs (allStored es m)

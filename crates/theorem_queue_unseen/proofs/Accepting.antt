@@ -40,12 +40,12 @@ module _ (c : Chip) (h : InRange c) where
   initialized = sym (write-does 7 0 c h (omega arith) 7 refl refl refl refl)
 
   -- a read of the table, in read mode with nothing waiting
-  pub table-read : c .control .readmode ≡ 1 → c .waiting ≡ [] → Accepted called (reads 2) c
-  unfolding registerAt readable answers
+  pub table-read : c .control .readmode ≡ 1 → c .waiting ≡ [] → called (reads 2) c ≡ answers palette c
+  unfolding registerAt readable
   table-read e w =
       let reading = ne-eqb (c .control .readmode) 0 (λ z. omega arith) in
       let none = ap not (eq-eqb (length (c .waiting)) 0 (ap length w)) in
-      ap (λ (o : Outcome Chip). o .refusal) (sym (read-does 2 c h 2 refl refl reading none refl))
+      sym (read-does 2 c h 2 refl refl reading none refl)
 
   -- a pixel
   pub pixel-accepted : (mode word : ℕ) → mode < 4 → word < 2 ^ 24 → Accepted called (pixels mode word) c

@@ -2,7 +2,7 @@
 -- bytes, with 3 × waiting + counter the number of those taken. Assumes nothing.
 use Prim.Native.Nat.{ℕ, zero, suc, _+_, _*_, _<_, _≤_}
 use mathlib.Core.Path.{_≡_, refl, sym, ap, subst}
-use mathlib.Core.Bool.{Bool, true, not}
+use mathlib.Core.Bool.{true, not}
 use mathlib.Core.List.{List, [], _∷_, map}
 use native.Mathlib.Nat.{add-zero}
 use native.Mathlib.Omega.{arith}
@@ -20,6 +20,7 @@ use Rattle.ms622424.specs.Ms622424.{Chip, Entry, queueLengths, identRanges, InR
 use Rattle.ms622424.specs.Ms622424.{Moves, taken, written, Call, writes, resets, refusals, does, called}
 use Rattle.ms622424.proofs.Kept.{fresh-in-range, called-keeps-range}
 use Rattle.ms622424.proofs.Moves.{room-left}
+use Rattle.theorem_queue_unseen.specs.Unseen.{areBytes}
 use Rattle.theorem_queue_unseen.proofs.Accepting.{palette-accepted}
 
 -- ---- a chip on its way: so many bytes taken since the reset, and no transfer yet
@@ -49,9 +50,6 @@ taken-fills (suc (suc (suc k))) n byte c e h f hn = absurd (omega arith)
 -- ---- bytes for the palette, one after another
 abbrev pub forPalette : List ℕ → List Call
 forPalette bytes = map (writes 2) bytes
-
-abbrev pub areBytes : List ℕ → Bool
-areBytes bytes = every (λ (n : ℕ). ltb n 256) bytes
 
 fill-step : (n byte : ℕ) (c : Chip) → InRange c → Filling n c → n < 192 → byte < 256
     → Filling (n + 1) (called (writes 2 byte) c .left)

@@ -5,7 +5,7 @@ use Rattle.vocabulary.specs.Outcome.{Outcome}
 use Rattle.vocabulary.specs.Run.{after}
 use Rattle.ms622424.specs.Ms622424.{Chip, Call, called}
 use Rattle.ms622424_places.specs.Places.{Handed, view}
-use Rattle.theorem_queue_unseen.specs.Unseen.{NoReset, immediate, Unseen}
+use Rattle.theorem_queue_unseen.specs.Unseen.{NoReset, Unseen}
 use Rattle.theorem_queue_unseen.specs.Made.{Made, none, next, CallerUnseen}
 use Rattle.theorem_queue_unseen.proofs.Unseen.{unseen}
 
@@ -21,6 +21,6 @@ caller-unseen before now o reset calls r d a made h =
     let start = called reset (view before) .left in
     let no : NoReset calls start = subst (NoReset calls) e h in
     let accepted = sym (ap (λ (p : Outcome Chip). p .refusal) (d .chip)) ∙ a in
-    subst (λ (c : Chip). Unseen c (immediate calls (view (o .left)))) (sym (made-run made))
-    (subst (λ (c : Chip). Unseen (after called calls c) (immediate calls c)) (sym e)
+    subst (λ (c : Chip). Unseen (view (o .left)) calls c) (sym (made-run made))
+    (subst (λ (c : Chip). Unseen c calls (after called calls c)) (sym e)
     (unseen (view before) reset calls r accepted no))

@@ -1,29 +1,31 @@
 -- THE PREMISES CAN BE MET: after an accepted reset of a chip with a whole map, any 192 bytes for the palette fill the
 -- queue, and one more forces a transfer of four; pixels and a read that the theorem is about follow. Assumes nothing.
-use Prim.Native.Nat.{ℕ, zero, suc, _^_, _<_, _≤_}
+use Prim.Native.Nat.{ℕ, suc, _+_, _*_, _%_, _^_, _<_}
 use mathlib.Core.Path.{_≡_, refl, sym, ap, _∙_}
 use mathlib.Core.Bool.{true}
 use mathlib.Core.List.{List, [], _∷_, _++_}
 use native.Mathlib.Omega.{arith}
+use borrow.Author.Tests.{ne-eqb}
 use lib.Dec.{ltb}
 use lib.ListN.{length, replicate, length-replicate, drop-of-length-le}
-use Rattle.vocabulary.specs.Component.{Component}
+use Rattle.vocabulary.specs.Every.{every}
 use Rattle.vocabulary.specs.Face.{calledBy}
 use Rattle.vocabulary.specs.Outcome.{Outcome, answeredAt}
 use Rattle.vocabulary.specs.Range.{fails, meets}
 use Rattle.vocabulary.specs.Refusal.{refusalOf}
 use Rattle.vocabulary.specs.Run.{after, Along, Accepted}
+use Rattle.vocabulary.proofs.Choice.{picks-second}
 use Rattle.vocabulary.proofs.Every.{every-replicate}
 use Rattle.vocabulary.proofs.Range.{clash}
 use Rattle.vocabulary.proofs.Run.{after-append, along-append, run-keeps}
-use Rattle.ms622424.specs.Ms622424.{Chip, InRange, entryShown, written, Moves, port, control}
+use Rattle.ms622424.specs.Ms622424.{Chip, InRange, written, answers, Moves, port, control}
 use Rattle.ms622424.specs.Ms622424.{Call, writes, reads, blanks, pixels, resets, called}
 use Rattle.ms622424.proofs.Blank.{blank-does}
 use Rattle.ms622424.proofs.Kept.{called-keeps-range}
 use Rattle.ms622424.proofs.Moves.{moves-are, room-forced}
-use Rattle.theorem_queue_unseen.specs.Unseen.{NoReset, ReadsNoWaiting}
+use Rattle.theorem_queue_unseen.specs.Unseen.{NoReset, areBytes, byteOf, gunEntry, ReadsNoWaiting}
 use Rattle.theorem_queue_unseen.proofs.Accepting.{palette-accepted, initialized, table-read, pixel-accepted}
-use Rattle.theorem_queue_unseen.proofs.Fill.{Filling, forPalette, areBytes, fill, fresh-filling}
+use Rattle.theorem_queue_unseen.proofs.Fill.{Filling, forPalette, fill, fresh-filling}
 
 -- ---- THE RUNS that meet the premises
 -- the queue emptied, then read mode
@@ -53,16 +55,12 @@ unfolding Along
 emptied-no-reset c = ((λ h. clash (sym (h .0))), ((λ h. clash (sym (h .0))), tt))
 
 -- ---- a pixel of modes 1 to 3 reads entries from 7,424 up
-entry-high : (mode word : ℕ) (k : Component) → mode < 3 → 7424 ≤ entryShown (suc mode) word k
-unfolding entryShown
-entry-high zero word k h = omega arith
-entry-high (suc zero) word k h = omega arith
-entry-high (suc (suc zero)) word k h = omega arith
-entry-high (suc (suc (suc mode))) word k h = absurd (omega arith)
-
-reads-high : (mode word n : ℕ) (c : Chip) → mode < 3 → Filling n c → ReadsNoWaiting (suc mode) word c
-unfolding ReadsNoWaiting
-reads-high mode word n c h f k = f .low (entryShown (suc mode) word k) (omega (arith, entry-high mode word k h))
+reads-high : (mode word n : ℕ) (c : Chip) → Filling n c → ReadsNoWaiting (suc mode) word c
+unfolding ReadsNoWaiting gunEntry
+reads-high mode word n c f k =
+    let high = picks-second (word % 8192) (7168 + 256 * suc mode + byteOf k word)
+    (ne-eqb (suc mode) 0 (λ z. omega arith)) in
+    f .low (gunEntry (suc mode) word k) (omega (arith, high))
 
 -- ---- a full queue
 module _ (c : Chip) (h : InRange c) (full : length (c .waiting) ≡ 64) where
@@ -77,7 +75,7 @@ module _ (c : Chip) (h : InRange c) (full : length (c .waiting) ≡ 64) where
       )
 
   read-after : Accepted called (reads 2) (after called emptied c)
-  unfolding after written
+  unfolding after written answers
   read-after =
       let d = called (blanks 64) c .left in
       let hd = called-keeps-range (blanks 64) c h in
@@ -85,9 +83,10 @@ module _ (c : Chip) (h : InRange c) (full : length (c .waiting) ≡ 64) where
       let none : d .waiting ≡ [] =
       ap (λ (o : Outcome Chip). o .left .waiting) (sym (blank-does 64 c h (omega arith) (sym (moves-are 64 c))))
       ∙ drop-of-length-le (c .waiting) {i = 64} (omega arith) in
-      table-read (called (writes 7 0) d .left) (called-keeps-range (writes 7 0) d hd)
+      ap (λ (o : Outcome Chip). o .refusal)
+      (table-read (called (writes 7 0) d .left) (called-keeps-range (writes 7 0) d hd)
       (ap (λ (o : Outcome Chip). o .left .control .readmode) done)
-      (ap (λ (o : Outcome Chip). o .left .waiting) done ∙ none)
+      (ap (λ (o : Outcome Chip). o .left .waiting) done ∙ none))
 
 pub premises-met : (before : Chip) (bytes : List ℕ) → Accepted called resets before → length (before .map) ≡ 24576
     → areBytes bytes ≡ true → length bytes ≡ 192 → Met (called resets before .left) (forPalette bytes)
@@ -103,7 +102,7 @@ premises-met before bytes a m b l =
       full = full;
       transfer = λ byte hb. forced c hc full byte (g .writing) hb;
       pixel = λ mode word hm hw.
-          (pixel-accepted c hc (suc mode) word (omega arith) hw, reads-high mode word _ c hm g);
+          (pixel-accepted c hc (suc mode) word (omega arith) hw, reads-high mode word _ c g);
       longer = along-append called _ (forPalette bytes) emptied start (no-reset bytes start) (emptied-no-reset c);
       read = rw (after-append called (forPalette bytes) emptied start) (read-after c hc full);
     }
@@ -118,6 +117,10 @@ zeros = record {
   map = replicate 24576 0;
   lent = record { places = 64; right = true };
 }
+
+pub zeros-in-range : InRange zeros
+unfolding zeros every
+zeros-in-range = let size = length-replicate {A = ℕ} 24576 0 in search arith
 
 pub one-run : Met (called resets zeros .left) (forPalette (replicate 192 0))
 unfolding zeros calledBy refusalOf answeredAt fails meets

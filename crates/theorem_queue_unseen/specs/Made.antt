@@ -6,7 +6,7 @@ use mathlib.Core.List.{List, [], _∷_}
 use Rattle.vocabulary.specs.Outcome.{Outcome}
 use Rattle.ms622424.specs.Ms622424.{Call, called}
 use Rattle.ms622424_places.specs.Places.{Handed, view, Does}
-use Rattle.theorem_queue_unseen.specs.Unseen.{isReset, NoReset, immediate, Unseen}
+use Rattle.theorem_queue_unseen.specs.Unseen.{isReset, NoReset, Unseen}
 
 -- calls made one after another, each handed what the call before handed back, each as it promises; and what the last
 -- one hands back
@@ -20,4 +20,4 @@ abbrev pub CallerUnseen : Type 0
 CallerUnseen =
     (before now : Handed) (o : Outcome Handed) (reset : Call) (calls : List Call) → isReset reset ≡ true
     → Does before o (called reset) → o .refusal ≡ 0 → Made (o .left) calls now → NoReset calls (view (o .left))
-    → Unseen (view now) (immediate calls (view (o .left)))
+    → Unseen (view (o .left)) calls (view now)

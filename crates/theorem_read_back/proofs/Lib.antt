@@ -1,1 +1,6 @@
-pub mod ReadBack
+pub mod Told
+pub mod StoreB
+pub mod ReadBackB
+pub mod Held
+pub mod Impostors
+pub mod ReadBackC

@@ -1,1 +1,3 @@
-pub mod ReadBack
+pub mod Told
+pub mod ReadBackB
+pub mod ReadBackC

@@ -1,5 +1,6 @@
 use Rattle.ms622424.specs.Ms622424.{answers}
 use Rattle.ms622424_map_read.proofs.Arms.{outside-refused, waiting-refused, palette-served}
+use native.Mathlib.Omega.{arith}
 use borrow.Author.Needs.{needs}
 use Rattle.ms622424_map_read.proofs.read_palette.Statement.{statement}
 use Rattle.ms622424_map_read.proofs.read_palette.Tie as tie
@@ -11,6 +12,8 @@ read-palette-spec =
     (tie.spec (λ c κs. search needs) (λ c q h. outside-refused _ q _ _ h (c .before .if1 .taken) (c .refused .ensures))
     (λ c κs. search needs)
     (λ c q h.
-    waiting-refused _ q _ _ h (c .before .before .before .if1 .left) (c .before .if2 .taken) (c .refused2 .ensures))
+    let waits = c .before .if2 .taken in
+    waiting-refused _ q _ _ h (c .before .before .before .if1 .left) (λ z. omega (arith, waits, z))
+    (c .refused2 .ensures))
     (λ c. search needs) (λ c. search needs) (λ c. search needs) (λ c. search needs) (λ c κs. search needs)
     (λ c. search needs) (λ c κs. search needs) (λ c q h. search (palette-served, needs)))

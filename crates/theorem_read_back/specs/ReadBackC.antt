@@ -1,11 +1,11 @@
--- What is written through port 6 reads back, on any chip in range and with auto-increment on or off.
+-- What is written to chip C through port 6 reads back, on any chip in range and with auto-increment on or off.
 use Prim.Native.Nat.{ℕ, _+_, _/_, _%_, _<_}
 use mathlib.Core.Path.{_≡_}
 use mathlib.Core.List.{List, [], _∷_, _++_}
 use lib.ListN.{replicate}
-use Rattle.vocabulary.specs.Reply.{Reply, reply}
 use Rattle.vocabulary.specs.Run.{replies}
 use Rattle.rgb640.specs.Rgb640.{Chip, InRange, Call, writes, reads, called}
+use Rattle.theorem_read_back.specs.Told.{tells}
 
 -- section 9.4.1.2: the low byte of the index is loaded before the high byte
 abbrev pub pointing : ℕ → List Call
@@ -17,10 +17,6 @@ storing e r g b = pointing (0x4000 + e) ++ (writes 6 r ∷ writes 6 g ∷ writes
 
 abbrev pub recalling : ℕ → List Call
 recalling e = pointing (0x8000 + e) ++ (reads 6 ∷ reads 6 ∷ reads 6 ∷ [])
-
--- an accepted call answers its value alone
-abbrev pub tells : ℕ → Reply
-tells v = reply 0 v 0 0
 
 -- For every entry and three bytes: the five writes, the two writes and the three reads are accepted, and the reads
 -- answer the three bytes.

@@ -1,4 +1,4 @@
--- What is written through port 6 reads back: each call is accepted and leaves the next chip, from the first to the
+-- What is written to chip C reads back: each call is accepted and leaves the next chip, from the first to the
 -- last, and the entry that the reads are fetched from is the one that was put. Assumes nothing.
 use Prim.Native.Nat.{ℕ, _+_, _*_, _/_, _%_, _≤_, _<_}
 use mathlib.Core.Path.{_≡_, refl, sym, ap, subst, _∙_}
@@ -6,8 +6,7 @@ use mathlib.Core.List.{List, [], _∷_, _++_}
 use native.Mathlib.Omega.{arith}
 use Rattle.vocabulary.specs.Component.{put}
 use Rattle.vocabulary.specs.Outcome.{Outcome, accepting}
-use Rattle.vocabulary.specs.Reply.{Reply, telling}
-use Rattle.vocabulary.specs.Run.{gathered, replies}
+use Rattle.vocabulary.specs.Reply.{Reply}
 use Rattle.expand.specs.Expand.{ten}
 use Rattle.expand.proofs.Width.{ten-below, ten-top}
 use Rattle.rgb640.specs.declared.State.{State}
@@ -21,20 +20,9 @@ use Rattle.rgb640.proofs.Index.{space-write, space-read, fetches-entry, fetches
 use Rattle.rgb640.proofs.Order.{red-latched, green-latched, blue-stored, red-told, green-told, blue-told}
 use Rattle.rgb640.proofs.InRange.{called-keeps-range}
 use Rattle.rgb640.proofs.Access.{write-index, write-data, read-data}
-use Rattle.theorem_read_back.specs.ReadBack.{pointing, recalling, tells, ReadsBack}
-
--- ---- A run of accepted calls: what they tell, and the chip that each leaves
-data Tells : List Call → Chip → List Reply → Type 0 where
-  done : {c : Chip} → Tells [] c []
-  then : {k : Call} {c d : Chip} {v : ℕ} {ks : List Call} {rs : List Reply} → called k c ≡ accepting v 0 d
-      → Tells ks d rs → Tells (k ∷ ks) c (tells v ∷ rs)
-
-heard : {ks : List Call} {c : Chip} {rs : List Reply} → Tells ks c rs → replies called ks c ≡ rs
-unfolding gathered
-heard done = refl
-heard (then {v = v} {ks = ks} e h) =
-    ap (λ (o : Outcome Chip). telling o ∷ replies called ks (o .left)) e
-    ∙ ap (λ (l : List Reply). tells v ∷ l) (heard h)
+use Rattle.theorem_read_back.specs.Told.{tells}
+use Rattle.theorem_read_back.specs.ReadBackC.{pointing, recalling, ReadsBack}
+use Rattle.theorem_read_back.proofs.Told.{Tells, done, then, heard}
 
 -- the next chip is in range too
 kept : (k : Call) {c d : Chip} {v : ℕ} → InRange c → called k c ≡ accepting v 0 d → InRange d
@@ -62,7 +50,8 @@ module _ (c : Chip) (r : InRange c) (i : ℕ) (h : i < 65536) where
     pointed-range : InRange d
     pointed-range = subst InRange p (kept _ (kept _ r first-half) second-half)
 
-    points : {ks : List Call} {rs : List Reply} → Tells ks d rs → Tells (pointing i ++ ks) c (tells 0 ∷ tells 0 ∷ rs)
+    points : {ks : List Call} {rs : List Reply} → Tells called ks d rs
+        → Tells called (pointing i ++ ks) c (tells 0 ∷ tells 0 ∷ rs)
     points h = then first-half (then (second-half ∙ ap (accepting 0 0) p) h)
 
 -- ---- Three bytes are written
@@ -102,8 +91,8 @@ module _ (s : State) (t : List ℕ) (x : InRange (chip s t)) (l : 0x4000 ≤ s .
   stored-range : InRange stored
   stored-range = kept _ (kept _ (kept _ x red-written) green-written) blue-written
 
-  stores : {ks : List Call} {rs : List Reply} → Tells ks stored rs
-      → Tells (writes 6 r ∷ writes 6 g ∷ writes 6 b ∷ ks) (chip s t) (tells 0 ∷ tells 0 ∷ tells 0 ∷ rs)
+  stores : {ks : List Call} {rs : List Reply} → Tells called ks stored rs
+      → Tells called (writes 6 r ∷ writes 6 g ∷ writes 6 b ∷ ks) (chip s t) (tells 0 ∷ tells 0 ∷ tells 0 ∷ rs)
   stores h = then red-written (then green-written (then blue-written h))
 
 -- ---- Three bytes are read
@@ -124,7 +113,7 @@ module _ (s : State) (t : List ℕ) (x : InRange (chip s t)) (l : 0x8000 ≤ s .
       ≡ accepting (s .fetched .green / 4) 0 (chip (at s (s .index) 2) t)
   green-read = reads-goes _ t (kept _ x red-read) l u (green-told _ t refl refl)
 
-  recalls : Tells (reads 6 ∷ reads 6 ∷ reads 6 ∷ []) (chip s t)
+  recalls : Tells called (reads 6 ∷ reads 6 ∷ reads 6 ∷ []) (chip s t)
       (tells (s .fetched .red / 4) ∷ tells (s .fetched .green / 4) ∷ tells (s .fetched .blue / 4) ∷ [])
   recalls =
       then red-read (then green-read (then
@@ -142,7 +131,7 @@ module _ (c : Chip) (x : InRange c) (e : ℕ) (h : e < 1024) (f : Colour) (q : e
       ∙ ap (λ (k : Colour). chip (fetching (at (c .state) (0x8000 + e) 0) k) (c .table))
       (ap (λ (n : ℕ). entry n (c .table)) (omega arith) ∙ q)
 
-  recalled : Tells (recalling e) c
+  recalled : Tells called (recalling e) c
       (tells 0 ∷ tells 0 ∷ tells (f .red / 4) ∷ tells (f .green / 4) ∷ tells (f .blue / 4) ∷ [])
   recalled =
       points c x (0x8000 + e) (omega arith) fetched
@@ -162,6 +151,6 @@ reads-back c x e r g b he hr hg hb =
     let found =
     ap (λ (n : ℕ). entry e (put n (ten 8 r) (ten 8 g) (ten 8 b) (c .table))) (let m : offset i ≡ e = omega arith in m)
     ∙ entry-put e _ _ _ (c .table) (omega arith) (low r hr) (low g hg) (low b hb) in
-    heard (points c x i (omega arith) nothing
+    heard called (points c x i (omega arith) nothing
     (stores s (c .table) y (omega arith) (omega arith) refl r g b hr hg hb (recalled _ z e he _ found)))
     ∙ (let er = top r hr in let eg = top g hg in let eb = top b hb in cc)
