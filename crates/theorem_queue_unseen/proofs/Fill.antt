@@ -17,10 +17,11 @@ use Rattle.vocabulary.proofs.Every.{every-append, every-one}
 use Rattle.vocabulary.proofs.Face.{called-clear, called-does}
 use Rattle.vocabulary.proofs.Range.{passes-holds, both, pair}
 use Rattle.ms622424.specs.Ms622424.{Chip, Entry, queueLengths, identRanges, InRange, selected, stepped, complete}
-use Rattle.ms622424.specs.Ms622424.{Moves, taken, written, Call, writes, resets, refusals, does, called}
+use Rattle.ms622424.specs.Ms622424.{Moves, taken, written, writes, resets, refusals, does, called}
 use Rattle.ms622424.proofs.Kept.{fresh-in-range, called-keeps-range}
 use Rattle.ms622424.proofs.Moves.{room-left}
 use Rattle.theorem_queue_unseen.specs.Unseen.{areBytes}
+use Rattle.theorem_queue_unseen.specs.Premises.{forPalette}
 use Rattle.theorem_queue_unseen.proofs.Accepting.{palette-accepted}
 
 -- ---- a chip on its way: so many bytes taken since the reset, and no transfer yet
@@ -48,9 +49,6 @@ taken-fills (suc (suc zero)) n byte c e h f hn =
 taken-fills (suc (suc (suc k))) n byte c e h f hn = absurd (omega arith)
 
 -- ---- bytes for the palette, one after another
-abbrev pub forPalette : List ℕ → List Call
-forPalette bytes = map (writes 2) bytes
-
 fill-step : (n byte : ℕ) (c : Chip) → InRange c → Filling n c → n < 192 → byte < 256
     → Filling (n + 1) (called (writes 2 byte) c .left)
 unfolding written

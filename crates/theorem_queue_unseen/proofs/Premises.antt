@@ -1,9 +1,9 @@
 -- THE PREMISES CAN BE MET: after an accepted reset of a chip with a whole map, any 192 bytes for the palette fill the
 -- queue, and one more forces a transfer of four; pixels and a read that the theorem is about follow. Assumes nothing.
-use Prim.Native.Nat.{ℕ, suc, _+_, _*_, _%_, _^_, _<_}
+use Prim.Native.Nat.{ℕ, suc, _+_, _*_, _%_, _<_}
 use mathlib.Core.Path.{_≡_, refl, sym, ap, _∙_}
 use mathlib.Core.Bool.{true}
-use mathlib.Core.List.{List, [], _∷_, _++_}
+use mathlib.Core.List.{List, [], _∷_}
 use native.Mathlib.Omega.{arith}
 use borrow.Author.Tests.{ne-eqb}
 use lib.Dec.{ltb}
@@ -18,31 +18,15 @@ use Rattle.vocabulary.proofs.Choice.{picks-second}
 use Rattle.vocabulary.proofs.Every.{every-replicate}
 use Rattle.vocabulary.proofs.Range.{clash}
 use Rattle.vocabulary.proofs.Run.{after-append, along-append, run-keeps}
-use Rattle.ms622424.specs.Ms622424.{Chip, InRange, written, answers, Moves, port, control}
-use Rattle.ms622424.specs.Ms622424.{Call, writes, reads, blanks, pixels, resets, called}
+use Rattle.ms622424.specs.Ms622424.{Chip, InRange, written, answers, Moves, control}
+use Rattle.ms622424.specs.Ms622424.{writes, reads, blanks, resets, called}
 use Rattle.ms622424.proofs.Blank.{blank-does}
 use Rattle.ms622424.proofs.Kept.{called-keeps-range}
 use Rattle.ms622424.proofs.Moves.{moves-are, room-forced}
 use Rattle.theorem_queue_unseen.specs.Unseen.{NoReset, areBytes, byteOf, gunEntry, ReadsNoWaiting}
+use Rattle.theorem_queue_unseen.specs.Premises.{forPalette, emptied, Met, zeros}
 use Rattle.theorem_queue_unseen.proofs.Accepting.{palette-accepted, initialized, table-read, pixel-accepted}
-use Rattle.theorem_queue_unseen.proofs.Fill.{Filling, forPalette, fill, fresh-filling}
-
--- ---- THE RUNS that meet the premises
--- the queue emptied, then read mode
-abbrev pub emptied : List Call
-emptied = blanks 64 ∷ writes 7 0 ∷ []
-
-pub record Met (start : Chip) (calls : List Call) : Type 0 where
-  pub run : NoReset calls start
-  pub full : length (after called calls start .waiting) ≡ 64
-  pub transfer : (byte : ℕ) → byte < 256
-      → let now = after called calls start in
-      Accepted called (writes 2 byte) now × (called (writes 2 byte) now .count ≡ 4)
-  pub pixel : (mode word : ℕ) → mode < 3 → word < 2 ^ 24
-      → let now = after called calls start in
-      Accepted called (pixels (suc mode) word) now × ReadsNoWaiting (suc mode) word now
-  pub longer : NoReset (calls ++ emptied) start
-  pub read : Accepted called (reads 2) (after called (calls ++ emptied) start)
+use Rattle.theorem_queue_unseen.proofs.Fill.{Filling, fill, fresh-filling}
 
 -- ---- writes and blankings are no resets
 no-reset : (bytes : List ℕ) (c : Chip) → NoReset (forPalette bytes) c
@@ -107,23 +91,13 @@ premises-met before bytes a m b l =
       read = rw (after-append called (forPalette bytes) emptied start) (read-after c hc full);
     }
 
--- and there is such a chip: every number 0
-pub zeros : Chip
-zeros = record {
-  port = port 0 0 0 0;
-  control = control 0 0;
-  ident = record { revision = 0; board = 0 };
-  waiting = [];
-  map = replicate 24576 0;
-  lent = record { places = 64; right = true };
-}
-
+-- and there is such a chip
 pub zeros-in-range : InRange zeros
-unfolding zeros every
+unfolding every
 zeros-in-range = let size = length-replicate {A = ℕ} 24576 0 in search arith
 
 pub one-run : Met (called resets zeros .left) (forPalette (replicate 192 0))
-unfolding zeros calledBy refusalOf answeredAt fails meets
+unfolding calledBy refusalOf answeredAt fails meets
 one-run =
     premises-met zeros (replicate 192 0) refl (length-replicate {A = ℕ} 24576 0)
     (every-replicate (λ (n : ℕ). ltb n 256) 192 0 refl) (length-replicate {A = ℕ} 192 0)
