@@ -2,11 +2,10 @@
 -- after blanking, each at its own gun. Assumes nothing.
 use Prim.Native.Nat.{ℕ, _+_, _*_, _/_, _<_}
 use mathlib.Core.Path.{_≡_, refl, sym, ap, _∙_}
-use mathlib.Core.Bool.{Bool, true, false, not}
+use mathlib.Core.Bool.{true, false, not}
 use mathlib.Core.List.{List, [], _∷_, _++_, map}
 use native.Mathlib.Omega.{arith}
 use borrow.Author.Tests.{not-true}
-use lib.Dec.{eqb}
 use lib.ListN.{getD, drop}
 use Rattle.vocabulary.specs.Component.{Component, red, green, blue, part, oneOf}
 use Rattle.vocabulary.specs.Every.{every}
@@ -16,25 +15,16 @@ use Rattle.vocabulary.specs.Run.{after, gathered, Along, replies, Keeps}
 use Rattle.vocabulary.proofs.Range.{both}
 use Rattle.vocabulary.proofs.Run.{run-keeps}
 use Rattle.ms622424.specs.Ms622424.{Chip, InRange, control, withControl, written}
-use Rattle.ms622424.specs.Ms622424.{Call, writes, reads, blanks, pixels, signals, resets, looks, called}
+use Rattle.ms622424.specs.Ms622424.{Call, writes, reads, blanks, called}
 use Rattle.theorem_queue_unseen.proofs.Accepting.{initialized}
 use Rattle.theorem_queue_unseen.proofs.Shown.{read-waiting}
 use Rattle.theorem_queue_unseen.proofs.Unseen.{one-of}
 use Rattle.theorem_read_back.specs.Told.{tells}
+use Rattle.theorem_read_back.specs.WrongB.{movesColours}
 use Rattle.theorem_read_back.specs.ReadBackB.{pointing, storing, ReadsBack}
 use Rattle.theorem_read_back.proofs.Told.{told-next, heard}
 use Rattle.theorem_read_back.proofs.StoreB.{kept, pointed, pointed-range, first-half, second-half}
 use Rattle.theorem_read_back.proofs.ReadBackB.{recalls}
-
--- the calls that take a colour or move one
-abbrev pub movesColours : Call → Bool
-movesColours (writes select byte) = eqb select 2
-movesColours (reads select) = false
-movesColours (blanks slots) = true
-movesColours (pixels mode word) = false
-movesColours (signals s) = false
-movesColours resets = false
-movesColours (looks place) = false
 
 abbrev threeReads : List Call
 threeReads = reads 2 ∷ reads 2 ∷ reads 2 ∷ []

@@ -15,7 +15,7 @@ use Rattle.vocabulary.specs.Outcome.{Outcome}
 use Rattle.vocabulary.specs.Run.{after, Keeps}
 use Rattle.vocabulary.proofs.Choice.{cases, picks-first, picks-second}
 use Rattle.vocabulary.proofs.Range.{clash}
-use Rattle.ms622424.specs.Ms622424.{Chip, Entry, InRange, withQueue, allStored, complete, taken}
+use Rattle.ms622424.specs.Ms622424.{Chip, Entry, InRange, complete, taken}
 use Rattle.ms622424.specs.Ms622424.{Call, writes, reads, blanks, pixels, signals, resets, looks, called}
 use Rattle.ms622424.proofs.Kept.{called-keeps-range}
 use Rattle.ms622424.proofs.Moves.{all-stored-length}
@@ -24,73 +24,56 @@ use Rattle.theorem_queue_unseen.proofs.Stored.{all-found, last-append}
 use Rattle.theorem_queue_unseen.specs.Premises.{zeros}
 use Rattle.theorem_queue_unseen.proofs.Premises.{zeros-in-range}
 use Rattle.theorem_read_back.specs.ReadBackB.{storing, ReadsBack}
+use Rattle.theorem_read_back.specs.WrongB.{movesColours, spoilt, exchanged, storingExchanged}
 use Rattle.theorem_read_back.proofs.ReadBackB.{blanks-all, full, full-range, older, full-waits, leads}
-use Rattle.theorem_read_back.proofs.Held.{movesColours, must-hold}
+use Rattle.theorem_read_back.proofs.Held.{must-hold}
 
 -- ---- Wrong chips: B's own calls, but for what an accepted blanking leaves in the map
-module _ (leaves : ℕ → Chip → List ℕ) where
-  pub spoilt : Call → Chip → Outcome Chip
-  spoilt (writes select byte) c = called (writes select byte) c
-  spoilt (reads select) c = called (reads select) c
-  spoilt (blanks slots) c =
-      let o = called (blanks slots) c in
-      record {
-        refusal = o .refusal;
-        value = o .value;
-        count = o .count;
-        line = o .line;
-        left = withQueue (o .left .waiting) (pick (eqb (o .refusal) 0) (leaves slots c) (c .map)) (o .left);
-      }
-  spoilt (pixels mode word) c = called (pixels mode word) c
-  spoilt (signals s) c = called (signals s) c
-  spoilt resets c = called resets c
-  spoilt (looks place) c = called (looks place) c
+module _ (leaves : ℕ → Chip → List ℕ) (sized : (slots : ℕ) (c : Chip) → length (leaves slots c) ≡ length (c .map)) where
+  spoilt-keeps : Keeps (spoilt leaves) InRange
+  unfolding spoilt
+  spoilt-keeps (writes select byte) c h = called-keeps-range (writes select byte) c h
+  spoilt-keeps (reads select) c h = called-keeps-range (reads select) c h
+  spoilt-keeps (blanks slots) c h =
+      let range = called-keeps-range (blanks slots) c h in
+      let size : length (pick (eqb (called (blanks slots) c .refusal) 0) (leaves slots c) (c .map)) ≡ 24576 =
+      cases (eqb (called (blanks slots) c .refusal) 0)
+      (λ e. ap (λ (m : List ℕ). length m) (picks-first _ _ e) ∙ (sized slots c ∙ h .size))
+      (λ e. ap (λ (m : List ℕ). length m) (picks-second _ _ e) ∙ h .size) in
+      search
+  spoilt-keeps (pixels mode word) c h = called-keeps-range (pixels mode word) c h
+  spoilt-keeps (signals s) c h = called-keeps-range (signals s) c h
+  spoilt-keeps resets c h = called-keeps-range resets c h
+  spoilt-keeps (looks place) c h = called-keeps-range (looks place) c h
 
-  module _ (sized : (slots : ℕ) (c : Chip) → length (leaves slots c) ≡ length (c .map)) where
-    spoilt-keeps : Keeps spoilt InRange
-    unfolding spoilt
-    spoilt-keeps (writes select byte) c h = called-keeps-range (writes select byte) c h
-    spoilt-keeps (reads select) c h = called-keeps-range (reads select) c h
-    spoilt-keeps (blanks slots) c h =
-        let range = called-keeps-range (blanks slots) c h in
-        let size : length (pick (eqb (called (blanks slots) c .refusal) 0) (leaves slots c) (c .map)) ≡ 24576 =
-        cases (eqb (called (blanks slots) c .refusal) 0)
-        (λ e. ap (λ (m : List ℕ). length m) (picks-first _ _ e) ∙ (sized slots c ∙ h .size))
-        (λ e. ap (λ (m : List ℕ). length m) (picks-second _ _ e) ∙ h .size) in
-        search
-    spoilt-keeps (pixels mode word) c h = called-keeps-range (pixels mode word) c h
-    spoilt-keeps (signals s) c h = called-keeps-range (signals s) c h
-    spoilt-keeps resets c h = called-keeps-range resets c h
-    spoilt-keeps (looks place) c h = called-keeps-range (looks place) c h
+  spoilt-own : (k : Call) (c : Chip) → movesColours k ≡ false → spoilt leaves k c ≡ called k c
+  unfolding spoilt
+  spoilt-own (writes select byte) c e = refl
+  spoilt-own (reads select) c e = refl
+  spoilt-own (blanks slots) c e = clash e
+  spoilt-own (pixels mode word) c e = refl
+  spoilt-own (signals s) c e = refl
+  spoilt-own resets c e = refl
+  spoilt-own (looks place) c e = refl
 
-    spoilt-own : (k : Call) (c : Chip) → movesColours k ≡ false → spoilt k c ≡ called k c
-    unfolding spoilt
-    spoilt-own (writes select byte) c e = refl
-    spoilt-own (reads select) c e = refl
-    spoilt-own (blanks slots) c e = clash e
-    spoilt-own (pixels mode word) c e = refl
-    spoilt-own (signals s) c e = refl
-    spoilt-own resets c e = refl
-    spoilt-own (looks place) c e = refl
+  -- what blanking leaves after a colour was written has its bytes, each at its own gun
+  module _ (back : ReadsBack (spoilt leaves)) (c : Chip) (x : InRange c) (a r g b : ℕ) (ha : a < 8192) (hr : r < 256)
+      (hg : g < 256) (hb : b < 256) where
+    abbrev waits : Chip
+    waits = full c x a r g b ha hr hg hb
 
-    -- what blanking leaves after a colour was written has its bytes, each at its own gun
-    module _ (back : ReadsBack spoilt) (c : Chip) (x : InRange c) (a r g b : ℕ) (ha : a < 8192) (hr : r < 256)
-        (hg : g < 256) (hb : b < 256) where
-      abbrev waits : Chip
-      waits = full c x a r g b ha hr hg hb
-
-      spoilt-must : (k : Component) → getD (leaves 64 waits) (3 * a + part k) 0 ≡ oneOf k r g b
-      unfolding spoilt after
-      spoilt-must k =
-          let stored = after called (storing a r g b) c in
-          let e : stored ≡ waits = leads c x a r g b ha hr hg hb in
-          let y = subst InRange (sym e) (full-range c x a r g b ha hr hg hb) in
-          let few = y .few in
-          let all = blanks-all stored y 64 (omega arith) (omega arith) in
-          let accepted = ap (λ (o : Outcome Chip). eqb (o .refusal) 0) all in
-          ap (λ (d : Chip). getD (leaves 64 d) (3 * a + part k) 0) (sym e)
-          ∙ (ap (λ (m : List ℕ). getD m (3 * a + part k) 0) (sym (picks-first _ _ accepted))
-          ∙ must-hold spoilt back spoilt-keeps spoilt-own c x a r g b ha hr hg hb k)
+    spoilt-must : (k : Component) → getD (leaves 64 waits) (3 * a + part k) 0 ≡ oneOf k r g b
+    unfolding spoilt after
+    spoilt-must k =
+        let stored = after called (storing a r g b) c in
+        let e : stored ≡ waits = leads c x a r g b ha hr hg hb in
+        let y = subst InRange (sym e) (full-range c x a r g b ha hr hg hb) in
+        let few = y .few in
+        let all = blanks-all stored y 64 (omega arith) (omega arith) in
+        let accepted = ap (λ (o : Outcome Chip). eqb (o .refusal) 0) all in
+        ap (λ (d : Chip). getD (leaves 64 d) (3 * a + part k) 0) (sym e)
+        ∙ (ap (λ (m : List ℕ). getD m (3 * a + part k) 0) (sym (picks-first _ _ accepted))
+        ∙ must-hold (spoilt leaves) back spoilt-keeps spoilt-own c x a r g b ha hr hg hb k)
 
 -- A TRANSFER THAT STORES NOTHING is refused: the same map would have to hold two different bytes
 pub nothing-stored : ReadsBack (spoilt (λ slots c. c .map)) → ⊥
@@ -105,12 +88,6 @@ nothing-stored back =
     omega arith
 
 -- ONE THAT EXCHANGES THE GUNS is refused: red's place would have to hold red, and holds blue
-abbrev pub exchanged : Entry → Entry
-exchanged e = record { address = e .address; red = e .blue; green = e .green; blue = e .red }
-
-abbrev pub storingExchanged : ℕ → Chip → List ℕ
-storingExchanged slots c = allStored (map exchanged (take slots (c .waiting))) (c .map)
-
 exchanged-size : (slots : ℕ) (c : Chip) → length (storingExchanged slots c) ≡ length (c .map)
 exchanged-size slots c = all-stored-length (map exchanged (take slots (c .waiting))) (c .map)
 

@@ -1,3 +1,4 @@
 pub mod Told
 pub mod ReadBackB
 pub mod ReadBackC
+pub mod WrongB
