@@ -77,7 +77,8 @@ impostors-a =
           2 _ (zeros .reserved 1 byte .1) 4 4 _ _ (zeros .readmask .read) (masked .readmask .read)
           (λ v n. omega arith);
       resets =
-          stirs called _ once (chip 1 0) (scope .reset (chip 1 0)) (changed (λ c. c .state .readmask) (λ e. omega arith));
+          stirs called _ once (chip 1 0) (scope .reset (chip 1 0))
+          (changed (λ c. c .state .readmask) (λ e. omega arith));
       ticks =
           stirs-or-refuses called _ once _ (scope .tick (chip 0 0) (search arith))
           (changed (λ c. c .state .clock .position) (λ e. omega arith)) once _

@@ -50,7 +50,8 @@ impostors-c =
       reads =
           all-four called _ 6 _ (reading .read 0 (omega arith) refl .red-read refl)
           (changed (λ c. c .state .place) (λ e. omega arith)) 7 _
-          (zeros .no-port 7 1 (λ h. omega (arith, h .1)) byte .1) 4 4 _ _ (zeros .index .low-read) (one .index .low-read)
+          (zeros .no-port 7 1 (λ h. omega (arith, h .1)) byte .1) 4 4 _ _ (zeros .index .low-read)
+          (one .index .low-read)
           (λ v n. omega arith);
       resets =
           stirs called _ once (chip 1) (scope .reset (chip 1)) (changed (λ c. c .state .index) (λ e. omega arith));
