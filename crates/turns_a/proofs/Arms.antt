@@ -6,8 +6,8 @@ use Rattle.vocabulary.specs.Outcome.{Outcome}
 use Rattle.hd153108.specs.declared.Clock.{Clock}
 use Rattle.hd153108.specs.declared.State.{State}
 use Rattle.hd153108.specs.declared.Answer.{Answer}
-use Rattle.hd153108.specs.Hd153108.{Chip, chip, outcome, withClock, clockOutcome, tick, called, resets, ticks}
-use Rattle.hd153108.proofs.Lent.{putBack, tick-lent}
+use Rattle.hd153108.specs.Hd153108.{Chip, chip, outcome, withClock, clockOutcome, tick, called, resets, ticks, putBack}
+use Rattle.hd153108.proofs.Lent.{tick-lent}
 use Rattle.log.specs.declared.Call.{Call}
 use Rattle.log.specs.declared.CallA.{CallA}
 use Rattle.log.specs.declared.CallA.the-variants.{Tick}
