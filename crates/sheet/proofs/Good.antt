@@ -1,5 +1,5 @@
 -- What a good sheet is: one line for each key, each lawful, and its text is that of its lines. Assumes nothing.
-use Prim.Native.Nat.{ℕ, zero, suc, _+_, _^_, _<_}
+use Prim.Native.Nat.{ℕ, zero, suc, _+_}
 use mathlib.Core.Path.{_≡_, refl, sym, ap}
 use mathlib.Core.Bool.{Bool, true, false}
 use mathlib.Core.List.{List, [], _∷_}
@@ -8,20 +8,10 @@ use lib.ListN.{length, drop}
 use Rattle.vocabulary.specs.Choice.{pick}
 use Rattle.sheet.specs.declared.Line.{Line}
 use Rattle.sheet.specs.declared.Line.the-variants.{Has, Missing}
-use Rattle.sheet.specs.Sheet.{keys, keyAt, width, takes, required, lineText, lineOf, Reading, good, bad, led}
+use Rattle.sheet.specs.Sheet.{keys, keyAt, required, lineText, lineOf, Reading, good, bad, led}
 use Rattle.sheet.specs.Sheet.{ended, readFrom, sheetOf, textFrom}
+use Rattle.sheet.specs.Grammar.{Sound}
 use Rattle.sheet.proofs.Lines.{line-is, line-taken, line-below}
-
--- what the lines from key k on may be: a value that the key takes, of no more digits; or missing, where it may be
-abbrev pub Lawful : ℕ → List Line → Type 0
-Lawful k [] = Unit
-Lawful k (Has v ∷ l) = (v < 16 ^ width (keyAt k)) × (takes (keyAt k) v ≡ true) × Lawful (k + 1) l
-Lawful k (Missing ∷ l) = (required (keyAt k) ≡ false) × Lawful (k + 1) l
-
-pub record Sound (more k : ℕ) (t : List ℕ) (l : List Line) : Type 0 where
-  pub long : length l ≡ more
-  pub lawful : Lawful k l
-  pub text : textFrom k l ≡ t
 
 -- a good reading with a line before it
 led-good : (x : Line) (r : Reading) (l : List Line) (A : Type 0) → led x r ≡ good l
