@@ -12,7 +12,7 @@ use Rattle.vocabulary.specs.Choice.{pick}
 use Rattle.vocabulary.proofs.Choice.{cases}
 use Rattle.sheet.specs.declared.Line.{Line}
 use Rattle.sheet.specs.declared.Line.the-variants.{Has, Missing}
-use Rattle.sheet.specs.Sheet.{keyAt, width, takes, required, lineText, lineOf, Reading, good, bad, led}
+use Rattle.sheet.specs.Sheet.{keyAt, width, takes, lineText, lineOf, Reading, good, bad, led}
 use Rattle.sheet.specs.Sheet.{ended, readFrom, textFrom}
 use Rattle.sheet.specs.Grammar.{Lawful, firstLines}
 use Rattle.sheet.proofs.Texts.{firsts, takes-entry}
@@ -88,7 +88,7 @@ module _ (more k n m : ℕ) (t : List ℕ)
             ∙ ap (λ (l : List ℕ). firstLines l (suc (r .past))) (line-is (keyAt k) t v e);
       }
   step Missing e w =
-      missing-bad (required (keyAt k)) n m _ _ (rw e at w)
+      missing-bad _ n m _ _ (rw e at w)
       (λ b f. here (suc more) k n m t f)
       (λ b f.
       let r = on n t (led-bad Missing _ m f) in

@@ -36,8 +36,12 @@ good-from (Missing ∷ l) k n h (free, f) =
     rw (behind k (entry-by k free) l (k + 1) (omega arith) (omega arith) f, good-from l (k + 1) n (omega arith) f)
     (picks-second (bad n) _ free)
 
+good-all : (l : List Line) (more n : ℕ) → length l ≡ more → more ≤ keys → Lawful 0 l
+    → readFrom more 0 n (textFrom 0 l) ≡ good l
+good-all l more n e h f = rw e at (good-from l 0 n (omega arith) f)
+
 pub lawful-good : (l : List Line) → length l ≡ keys → Lawful 0 l → sheetOf (textFrom 0 l) ≡ good l
-lawful-good l e f = rw e at (good-from l 0 1 (omega arith) f)
+lawful-good l e f = good-all l keys _ e (omega arith) f
 
 -- ---- the statement
 
@@ -53,7 +57,7 @@ begins-fewer m n t h b = record {
 
 bad-at : (t : List ℕ) (n : ℕ) → sheetOf t ≡ bad n → BadAt n t
 bad-at t n e =
-    let p = past-from keys 0 1 n t e in
+    let p = past-from keys 0 _ n t e in
     let one-less : n - 1 ≡ p .past = omega (arith, p .number) in
     record {
       counted = omega (arith, p .number);
@@ -66,7 +70,7 @@ bad-at t n e =
       none = λ b.
           let s = b .is in
           let suc-past : suc (p .past) ≡ n = omega (arith, p .number) in
-          none-from keys 0 n 1 (p .past) t (b .lines) (omega arith) (p .number)
+          none-from keys 0 n _ (p .past) t (b .lines) (omega arith) (p .number)
           (record { long = s .long; lawful = s .lawful; same = rw (s .text, suc-past) (b .same) }) e;
     }
 

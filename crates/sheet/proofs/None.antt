@@ -7,7 +7,7 @@ use lib.ListN.{length, drop}
 use Rattle.vocabulary.proofs.Range.{clash}
 use Rattle.sheet.specs.declared.Line.{Line}
 use Rattle.sheet.specs.declared.Line.the-variants.{Has, Missing}
-use Rattle.sheet.specs.Sheet.{keys, keyAt, required, lineText, lineOf, bad, ended, readFrom, textFrom}
+use Rattle.sheet.specs.Sheet.{keys, keyAt, lineText, lineOf, bad, ended, readFrom, textFrom}
 use Rattle.sheet.specs.Grammar.{Lawful, firstLines}
 use Rattle.sheet.proofs.Lines.{line-is, line-below, line-taken, line-there}
 use Rattle.sheet.proofs.Apart.{entry-by, behind}
@@ -82,7 +82,7 @@ module _ (more k m : ℕ) (room : k + suc more ≤ keys)
       let there = line-there (keyAt k) w (textFrom (k + 1) l) (f .0) (f .1) in
       has-missing (shared k w j _ t there (like .same)) e
   none-missing n j t (Missing ∷ l) is like e r =
-      missing-bad (required (keyAt k)) n m _ ⊥ (rw e at r)
+      missing-bad _ n m _ ⊥ (rw e at r)
       (λ b f. clash (sym b ∙ like .lawful .0))
       (λ b f.
       on n j t l is (record { long = omega (arith, like .long); lawful = like .lawful .1; same = like .same })

@@ -8,8 +8,8 @@ use lib.ListN.{length, take, drop, set, replicate, length-set, take-append-drop,
 use lib.Seq.{take-add, take-suc-set, drop-set-lt, drop-drop}
 use Rattle.vocabulary.specs.Choice.{pick}
 use Rattle.sheet.specs.declared.Line.{Line}
-use Rattle.sheet.specs.declared.Line.the-variants.{Has, Missing}
-use Rattle.sheet.specs.Sheet.{keys, keyAt, Reading, good, bad, badLine, readFrom, sheetOf}
+use Rattle.sheet.specs.declared.Line.the-variants.{Missing}
+use Rattle.sheet.specs.Sheet.{keys, Reading, good, bad, badLine, readFrom, sheetOf}
 use Rattle.sheet.specs.Kept.{numberFor, keptOf, lineFor}
 use Rattle.sheet.proofs.Apart.{nothing}
 use Rattle.sheet.proofs.Kept.{kept-has}

@@ -60,17 +60,25 @@ round a w =
     length-map (values a) Has ∙ length-values a (w .overlays) (w .colours) in
     lawful-good (chipLines a) long (chip-lawful a w)
 
--- the same of a call that was accepted: its count of bytes of the buffer, read
-first-of : (out word : List ℕ) → take (length word) (pasted out 0 word) ≡ word
+-- the first bytes of a buffer that a word is written over are the word
+pub first-of : (out word : List ℕ) → take (length word) (pasted out 0 word) ≡ word
 unfolding pasted
 first-of out word = take-append-seam word (drop (0 + length word) out)
 
+-- a call that was accepted was of a chip that the writer takes
+pub write-writable : (a : Chip) (out : List ℕ) → write a out .refusal ≡ 0 → Writable a
+unfolding write
+write-writable a out e =
+    let n = accepted-none (refusalOf (writeRefusals a out)) 0 out _ e in
+    let (short-none, (range-none, (_, (_, (_, (_, (over-none, _))))))) = none-exactly (writeRefusals a out) n in
+    let low = neither (overFifteenIn (a .colours)) _ over-none in
+    writable a short-none range-none (low .0) (low .1)
+
+-- and its count of bytes of the buffer, read, gives what was written
 pub write-round : (a : Chip) (out : List ℕ) → write a out .refusal ≡ 0
     → sheetOf (take (write a out .count) (write a out .left)) ≡ good (chipLines a)
 unfolding write
 write-round a out e =
     let n = accepted-none (refusalOf (writeRefusals a out)) 0 out _ e in
-    let (short-none, (range-none, (_, (_, (_, (_, (over-none, _))))))) = none-exactly (writeRefusals a out) n in
-    let low = neither (overFifteenIn (a .colours)) _ over-none in
     let is : write a out ≡ accepting 0 (length (textOf a)) (pasted out 0 (textOf a)) = accepted-does 0 out _ n in
-    rw (is, first-of out (textOf a)) (round a (writable a short-none range-none (low .0) (low .1)))
+    rw (is, first-of out (textOf a)) (round a (write-writable a out e))
