@@ -38,8 +38,12 @@ good-by text out (bad n) e f =
     let well-formed : due (callRefusals (bad n) out) malformed ≡ false = search in
     clash well-formed
 
+pub accepted-good : (text out : List ℕ) → sheetToCalls text out .refusal ≡ 0
+    → sheetOf text ≡ good (linesOf (sheetOf text))
+accepted-good text out f = good-by text out (sheetOf text) refl f
+
 module _ (text out : List ℕ) (l : List Line) (e : sheetOf text ≡ good l) (f : sheetToCalls text out .refusal ≡ 0) where
-  step-does : sheetToCalls text out ≡ accepting 0 (length (callsOf l)) (pasted out 0 (callBytes (callsOf l)))
+  pub step-does : sheetToCalls text out ≡ accepting 0 (length (callsOf l)) (pasted out 0 (callBytes (callsOf l)))
   unfolding sheetToCalls
   step-does = rw e (accepted-does 0 out _ (accepted-none _ 0 out _ (rw e at f)))
 
@@ -70,7 +74,7 @@ module _ (w : Writing) (loads : LoadsSheets w) where
   loads-text : (text out : List ℕ) (c : Chip) → sheetToCalls text out .refusal ≡ 0 → InRange c → LoadsText w text out c
   loads-text text out c f g =
       let l = linesOf (sheetOf text) in
-      let e = good-by text out (sheetOf text) refl f in
+      let e = accepted-good text out f in
       let m = loads text l c e g in
       let is = calls-written text out l e f in
       record { lines = l; is = grammar .good-only text l e; accepted = rw is (m .accepted); leaves = rw is (m .leaves) }
