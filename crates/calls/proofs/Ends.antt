@@ -75,7 +75,8 @@ pub calls-fit : (kept out : List ℕ) {n : ℕ} → n ≡ length (callsOf (map l
 calls-fit kept out e h = omega (arith, length-bytes (callsOf (map lineFor kept)))
 
 -- a good sheet
-module _ (t kept : List ℕ) {n : ℕ} (line : n ≡ badLine (sheetOf t)) (read : kept ≡ keptOf (sheetOf t)) (z : n ≡ 0) where
+module _ (t kept : List ℕ) {n : ℕ} (line : n ≡ badLine (sheetOf t)) (read : kept ≡ keptOf (sheetOf t))
+    (z : n ≡ 0) where
   is : good (map lineFor kept) ≡ sheetOf t
   is = sym (kept-good t n line kept read z)
 

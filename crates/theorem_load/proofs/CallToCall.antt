@@ -77,7 +77,8 @@ module _ (w : Writing) (loads : LoadsSheets w) where
       let e = accepted-good text out f in
       let m = loads text l c e g in
       let is = calls-written text out l e f in
-      record { lines = l; is = grammar .good-only text l e; accepted = rw is (m .accepted); leaves = rw is (m .leaves) }
+      let sheet = grammar .good-only text l e in
+      record { lines = l; is = sheet; accepted = rw is (m .accepted); leaves = rw is (m .leaves) }
 
   loads-chip : (a b : Chip) (out list : List ℕ) → write a out .refusal ≡ 0 → callsFor a out list .refusal ≡ 0
       → InRange b → LoadsChip w a b out list

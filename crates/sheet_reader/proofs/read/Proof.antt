@@ -44,7 +44,8 @@ loop-again c = search reads-on
 
 returns : tie.Need-returns Inv-loop μ-loop
 returns c =
-    reads-bad _ _ _ _ _ (c .before .before .before .before .loop .inv) (c .before .before .line-at .ensures) (search needs)
+    reads-bad _ _ _ _ _ (c .before .before .before .before .loop .inv) (c .before .before .line-at .ensures)
+    (search needs)
 
 returns-2 : tie.Need-returns-2 Inv-loop μ-loop
 returns-2 c = ends-good _ _ _ _ _ (c .before .before .loop .inv) (search needs) (search needs)
