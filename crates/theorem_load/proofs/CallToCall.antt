@@ -4,7 +4,7 @@ use mathlib.Core.Path.{_≡_, refl, sym, ap, _∙_}
 use mathlib.Core.Bool.{false}
 use mathlib.Core.List.{List}
 use native.Mathlib.Omega.{arith}
-use lib.ListN.{length, take}
+use lib.ListN.{length, take, replicate, length-replicate}
 use Rattle.vocabulary.specs.Refusal.{due, malformed}
 use Rattle.vocabulary.specs.Outcome.{Outcome, accepting}
 use Rattle.vocabulary.proofs.Range.{clash}
@@ -96,6 +96,20 @@ module _ (w : Writing) (loads : LoadsSheets w) where
     written = with-room;
     listed = λ text out l s h. list-room text out l s (omega arith);
   }
+
+-- and what does so from call to call loads every sheet
+lines-of-good : {l m : List Line} → good l ≡ good m → l ≡ m
+lines-of-good e = cc
+
+pub calls-load : (w : Writing) → CallToCall w → LoadsSheets w
+calls-load w m text lines c e g =
+    let out : List ℕ = replicate 1572 0 in
+    let sheet = grammar .good-only text lines e in
+    let f = m .listed text out lines sheet (omega (arith, length-replicate {A = ℕ} 1572 0)) in
+    let t = m .loads text out c f g in
+    let same : t .lines ≡ lines = lines-of-good (sym (grammar .good-where text (t .lines) (t .is)) ∙ e) in
+    let is = calls-written text out lines e f in
+    record { accepted = rw is at (t .accepted); leaves = rw (same, is) at (t .leaves) }
 
 -- Document 01, demand 2, from call to call.
 pub call-to-call : CallToCall writing
