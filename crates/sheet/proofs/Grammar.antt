@@ -1,49 +1,19 @@
 -- The grammar reads sheets: good exactly when, bad exactly when. Assumes nothing.
-use Prim.Native.Nat.{ℕ, suc, _+_, _-_, _≤_}
+use Prim.Native.Nat.{ℕ, suc, _-_, _≤_}
 use mathlib.Core.Path.{_≡_, refl, sym, ap, _∙_}
-use mathlib.Core.List.{List, [], _∷_}
+use mathlib.Core.List.{List}
 use native.Mathlib.Omega.{arith}
 use lib.Dec.{ltb}
-use lib.ListN.{length}
-use lib.Seq.{drop-append-seam}
 use borrow.Author.Tests.{ltb-true, ltb-false}
-use Rattle.vocabulary.proofs.Choice.{cases, picks-second}
+use Rattle.vocabulary.proofs.Choice.{cases}
 use Rattle.sheet.specs.declared.Line.{Line}
-use Rattle.sheet.specs.declared.Line.the-variants.{Has, Missing}
-use Rattle.sheet.specs.Sheet.{keys, keyAt, lineText, Reading, good, bad, readFrom, sheetOf, textFrom}
-use Rattle.sheet.specs.Grammar.{Lawful, IsSheet, firstLines, Begins, BadAt, ReadsSheets}
-use Rattle.sheet.proofs.Lines.{line-there}
-use Rattle.sheet.proofs.Apart.{entry-by, behind}
+use Rattle.sheet.specs.Sheet.{keys, Reading, good, bad, sheetOf, textFrom}
+use Rattle.sheet.specs.Grammar.{IsSheet, firstLines, Begins, BadAt, ReadsSheets}
+use Rattle.sheet.proofs.Back.{lawful-good}
 use Rattle.sheet.proofs.First.{first-fewer}
 use Rattle.sheet.proofs.Good.{sound}
 use Rattle.sheet.proofs.Begins.{past-from}
 use Rattle.sheet.proofs.None.{none-from}
-
--- ---- lawful lines, some of them missing, make a good sheet of just those lines
-
-good-from : (l : List Line) (k n : ℕ) → k + length l ≤ keys → Lawful k l
-    → readFrom (length l) k n (textFrom k l) ≡ good l
-unfolding readFrom textFrom
-good-from [] k n h f = refl
-good-from (Has v ∷ l) k n h (fits, taken, f) =
-    let line = lineText (keyAt k) v in
-    rw (
-      line-there (keyAt k) v (textFrom (k + 1) l) fits taken,
-      drop-append-seam line (textFrom (k + 1) l),
-      good-from l (k + 1) (n + 1) (omega arith) f,
-    )
-good-from (Missing ∷ l) k n h (free, f) =
-    rw (behind k (entry-by k free) l (k + 1) (omega arith) (omega arith) f, good-from l (k + 1) n (omega arith) f)
-    (picks-second (bad n) _ free)
-
-good-all : (l : List Line) (more n : ℕ) → length l ≡ more → more ≤ keys → Lawful 0 l
-    → readFrom more 0 n (textFrom 0 l) ≡ good l
-good-all l more n e h f = rw e at (good-from l 0 n (omega arith) f)
-
-pub lawful-good : (l : List Line) → length l ≡ keys → Lawful 0 l → sheetOf (textFrom 0 l) ≡ good l
-lawful-good l e f = good-all l keys _ e (omega arith) f
-
--- ---- the statement
 
 -- a text that begins as a sheet for some lines does so for fewer
 begins-fewer : (m n : ℕ) (t : List ℕ) → m ≤ n → Begins n t → Begins m t

@@ -2,6 +2,7 @@ pub mod Texts
 pub mod Starts
 pub mod Lines
 pub mod Apart
+pub mod Back
 pub mod First
 pub mod Paste
 pub mod Going

@@ -20,7 +20,7 @@ use Rattle.sheet.specs.Sheet.{keys, keyAt, good, sheetOf, coloursIn, values, ch
 use Rattle.sheet.specs.Sheet.{pasted, overFifteenIn, writeRefusals, write}
 use Rattle.sheet.specs.Grammar.{Lawful}
 use Rattle.sheet.proofs.Texts.{width-entry, takes-entry}
-use Rattle.sheet.proofs.Grammar.{lawful-good}
+use Rattle.sheet.proofs.Back.{lawful-good}
 use Rattle.sheet_written.specs.Writer.{Writable}
 use Rattle.sheet_written.proofs.Values.{low-first, length-values, writable}
 
