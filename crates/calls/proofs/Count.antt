@@ -58,7 +58,7 @@ register-bound s [] = omega arith
 register-bound s (Has v ∷ l) = omega (arith, register-bound (s + 1) l)
 register-bound s (Missing ∷ l) = omega (arith, register-bound (s + 1) l)
 
--- the list's length, and at most 786: law 1
+-- the list's length, and at most 786
 pub length-calls : (l : List Line) → length (callsOf l)
     ≡ length (registerCalls 4 (registersOf l)) + (tableCount false (overlaysOf l) + tableCount false (coloursOf l))
 unfolding callsOf

@@ -14,11 +14,12 @@ use Rattle.vocabulary.proofs.Call.{stops, goes-on}
 use Rattle.vocabulary.proofs.Range.{clash}
 use Rattle.sheet.specs.declared.Answer.the-variants.{Done, Refused}
 use Rattle.sheet.specs.declared.Line.{Line}
-use Rattle.sheet.specs.Sheet.{good, bad, keys, keyAt, width, required, sheetOf, pasted, outcome}
+use Rattle.sheet.specs.Sheet.{good, bad, keys, keyAt, width, required, sheetOf, badLine, pasted, outcome}
 use Rattle.sheet.proofs.Texts.{required-first, width-register}
-use Rattle.sheet.proofs.Good.{Lawful, sound}
-use Rattle.sheet.proofs.Kept.{kept-missing, kept-has}
-use Rattle.sheet.specs.Kept.{lineFor, readingOf}
+use Rattle.sheet.specs.Grammar.{Lawful}
+use Rattle.sheet.specs.Kept.{keptOf, lineFor}
+use Rattle.sheet.proofs.Good.{sound}
+use Rattle.sheet.proofs.Kept.{kept-missing, kept-has, kept-bad, kept-good}
 use Rattle.calls.specs.Calls.{callsOf, callBytes, callRefusals, sheetToCalls}
 use Rattle.calls.specs.Kept.{Kept}
 use Rattle.calls.proofs.Stored.{length-bytes}
@@ -36,10 +37,10 @@ malformed-eight t out n e =
     (stops (callRefusals (bad (suc n)) out) (suc n) out _ before malformed 7 _ refl refl
     (refl, (refl, (refl, (refl, (refl, (refl, (refl, tt))))))) refl)
 
-pub refused-bad : (t out : List ℕ) (n : ℕ) (kept : List ℕ) → readingOf n kept ≡ sheetOf t → (n ≡ 0 → ⊥)
+pub refused-bad : (t out : List ℕ) (n : ℕ) → n ≡ badLine (sheetOf t) → (n ≡ 0 → ⊥)
     → outcome (Refused 8 n) out ≡ sheetToCalls t out
-refused-bad t out zero kept e h = absurd (h refl)
-refused-bad t out (suc n) kept e h = malformed-eight t out n e
+refused-bad t out zero e h = absurd (h refl)
+refused-bad t out (suc n) e h = malformed-eight t out n (sym (kept-bad t (suc n) e h))
 
 -- a required line that is kept is there
 required-kept : (k x : ℕ) (l : List Line) → required (keyAt k) ≡ true → Lawful k (lineFor x ∷ l)
@@ -74,9 +75,10 @@ pub calls-fit : (kept out : List ℕ) {n : ℕ} → n ≡ length (callsOf (map l
 calls-fit kept out e h = omega (arith, length-bytes (callsOf (map lineFor kept)))
 
 -- a good sheet
-module _ (t kept : List ℕ) {n : ℕ} (read : readingOf n kept ≡ sheetOf t) (z : n ≡ 0) where
+module _ (t kept : List ℕ) {n : ℕ} (line : n ≡ badLine (sheetOf t)) (read : kept ≡ keptOf (sheetOf t))
+    (z : n ≡ 0) where
   is : good (map lineFor kept) ≡ sheetOf t
-  is = rw z at read
+  is = sym (kept-good t n line kept read z)
 
   -- is kept well
   pub good-kept : Kept kept

@@ -1,33 +1,26 @@
 -- What a good sheet is: one line for each key, each lawful, and its text is that of its lines. Assumes nothing.
-use Prim.Native.Nat.{ℕ, zero, suc, _+_, _^_, _<_}
+use Prim.Native.Nat.{ℕ, zero, suc, _+_}
 use mathlib.Core.Path.{_≡_, refl, sym, ap}
 use mathlib.Core.Bool.{Bool, true, false}
 use mathlib.Core.List.{List, [], _∷_}
 use native.Mathlib.Omega.{arith}
-use lib.ListN.{length, drop}
 use Rattle.vocabulary.specs.Choice.{pick}
 use Rattle.sheet.specs.declared.Line.{Line}
 use Rattle.sheet.specs.declared.Line.the-variants.{Has, Missing}
-use Rattle.sheet.specs.Sheet.{keys, keyAt, width, takes, required, lineText, lineOf, Reading, good, bad, led}
+use Rattle.sheet.specs.Sheet.{keys, keyAt, lineOf, Reading, good, bad, led}
 use Rattle.sheet.specs.Sheet.{ended, readFrom, sheetOf, textFrom}
+use Rattle.sheet.specs.Grammar.{Sound}
 use Rattle.sheet.proofs.Lines.{line-is, line-taken, line-below}
 
--- what the lines from key k on may be: a value that the key takes, of no more digits; or missing, where it may be
-abbrev pub Lawful : ℕ → List Line → Type 0
-Lawful k [] = Unit
-Lawful k (Has v ∷ l) = (v < 16 ^ width (keyAt k)) × (takes (keyAt k) v ≡ true) × Lawful (k + 1) l
-Lawful k (Missing ∷ l) = (required (keyAt k) ≡ false) × Lawful (k + 1) l
-
-pub record Sound (more k : ℕ) (t : List ℕ) (l : List Line) : Type 0 where
-  pub long : length l ≡ more
-  pub lawful : Lawful k l
-  pub text : textFrom k l ≡ t
-
 -- a good reading with a line before it
-led-good : (x : Line) (r : Reading) (l : List Line) (A : Type 0) → led x r ≡ good l
-    → ((m : List Line) → r ≡ good m → x ∷ m ≡ l → A) → A
-led-good x (good m) l A e f = f m refl (cc)
-led-good x (bad n) l A e f = let z : _≡_ {A = ℕ} 0 1 = cc in absurd (omega arith)
+record Led (x : Line) (r : Reading) (l : List Line) : Type 0 where
+  rest : List Line
+  is : r ≡ good rest
+  all : x ∷ rest ≡ l
+
+led-good : (x : Line) (r : Reading) (l : List Line) → led x r ≡ good l → Led x r l
+led-good x (good m) l e = record { rest = m; is = refl; all = cc }
+led-good x (bad n) l e = let z : _≡_ {A = ℕ} 0 1 = cc in absurd (omega arith)
 
 may-miss : (b : Bool) (n : ℕ) (r : Reading) (l : List Line) → pick b (bad n) r ≡ good l → (b ≡ false) × (r ≡ good l)
 unfolding pick
@@ -46,21 +39,19 @@ module _ (more k n : ℕ) (t : List ℕ) (l : List Line)
   step : (x : Line) → lineOf (keyAt k) t ≡ x → readFrom (suc more) k n t ≡ good l → Sound (suc more) k t l
   unfolding readFrom textFrom
   step (Has v) e w =
-      led-good (Has v) _ l _ (rw e at w)
-      (λ m s u.
-      let r = on (n + 1) (drop (length (lineText (keyAt k) v)) t) m s in
-      rw (sym u)
+      let led = led-good (Has v) (readFrom more (k + 1) _ _) l (rw e at w) in
+      let r = on _ _ (led .rest) (led .is) in
+      rw (sym (led .all))
       (record {
         long = ap suc (r .long);
         lawful = (line-below (keyAt k) t v e, line-taken (keyAt k) t v e, r .lawful);
         text = rw (r .text) (line-is (keyAt k) t v e);
-      }))
+      })
   step Missing e w =
-      let miss = may-miss (required (keyAt k)) n _ l (rw e at w) in
-      led-good Missing _ l _ (miss .1)
-      (λ m s u.
-      let r = on n t m s in
-      rw (sym u) (record { long = ap suc (r .long); lawful = (miss .0, r .lawful); text = r .text }))
+      let miss = may-miss _ n _ l (rw e at w) in
+      let led = led-good Missing _ l (miss .1) in
+      let r = on _ _ (led .rest) (led .is) in
+      rw (sym (led .all)) (record { long = ap suc (r .long); lawful = (miss .0, r .lawful); text = r .text })
 
 sound-from : (more k n : ℕ) (t : List ℕ) (l : List Line) → readFrom more k n t ≡ good l → Sound more k t l
 unfolding readFrom
@@ -69,4 +60,4 @@ sound-from (suc more) k n t l e =
     step more k n t l (λ m s u v. sound-from more (k + 1) m s u v) (lineOf (keyAt k) t) refl e
 
 pub sound : (t : List ℕ) (l : List Line) → sheetOf t ≡ good l → Sound keys 0 t l
-sound t l e = sound-from keys 0 1 t l e
+sound t l e = sound-from keys 0 _ t l e

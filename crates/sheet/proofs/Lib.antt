@@ -1,7 +1,13 @@
 pub mod Texts
 pub mod Starts
 pub mod Lines
+pub mod Apart
+pub mod Back
+pub mod First
 pub mod Paste
 pub mod Going
 pub mod Good
+pub mod Begins
+pub mod None
+pub mod Grammar
 pub mod Kept

@@ -1,10 +1,12 @@
 -- Whether a text starts with a word. Assumes nothing.
+use Prim.Native.Nat.{ℕ, zero, suc, _<_}
 use mathlib.Core.Path.{_≡_, refl, sym, ap}
 use mathlib.Core.Bool.{true}
 use mathlib.Core.List.{List, [], _∷_, _++_}
-use lib.ListN.{length, drop}
+use native.Mathlib.Omega.{arith}
+use lib.Dec.{eqb}
+use lib.ListN.{length, getD, drop}
 use borrow.Author.Tests.{eq-eqb, eqb-true}
-use Prim.Native.Nat.{ℕ}
 use Rattle.vocabulary.proofs.Range.{clash, both}
 use Rattle.sheet.specs.Sheet.{starts}
 
@@ -22,3 +24,11 @@ pub starts-self : (p x : List ℕ) → starts p (p ++ x) ≡ true
 unfolding starts
 starts-self [] x = refl
 starts-self (a ∷ p) x = rw (eq-eqb a a refl) (starts-self p x)
+
+-- and has its bytes
+pub starts-at : (p t : List ℕ) (i : ℕ) → starts p t ≡ true → i < length p → getD t i 0 ≡ getD p i 0
+unfolding starts
+starts-at [] t i e h = absurd (let z : ⊥ = omega arith in z)
+starts-at (a ∷ p) [] i e h = clash (sym e)
+starts-at (a ∷ p) (b ∷ t) zero e h = sym (eqb-true a b (both (eqb a b) _ e .0))
+starts-at (a ∷ p) (b ∷ t) (suc i) e h = starts-at p t i (both (eqb a b) _ e .1) (omega arith)

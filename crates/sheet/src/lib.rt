@@ -1,9 +1,10 @@
 // A sheet of chip A: its definitions and the laws of its grammar, and what a call on a buffer answers.
 //
 // Document 01, "The sheet and its calls", decides; specs/Sheet.antt says it all: the grammar, the writer, what an
-// answer says. One line is written in sheet_text and read in sheet_line, the whole sheet in sheet_writer and
-// sheet_reader; the call list is in calls. Keys are numbered from 0 in the sheet's order: the five first lines, o0 to
-// o3, c00 to cff. Not modelled: any other chip's sheet.
+// answer says; specs/Grammar.antt says which texts are sheets, and that the grammar reads just those. One line is
+// written in sheet_text and read in sheet_line, the whole sheet in sheet_writer and sheet_reader; the call list is in
+// calls. Keys are numbered from 0 in the sheet's order: the five first lines, o0 to o3, c00 to cff. Not modelled: any
+// other chip's sheet.
 ghost use Rattle.sheet.specs.Sheet.{Tells};
 
 // A key's line: there with its value, or missing.

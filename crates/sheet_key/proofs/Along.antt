@@ -11,8 +11,9 @@ use Rattle.vocabulary.proofs.Choice.{cases}
 use Rattle.sheet.specs.declared.Line.{Line}
 use Rattle.sheet.specs.declared.Line.the-variants.{Has, Missing}
 use Rattle.sheet.specs.Sheet.{keys, keyAt, front, width, lineText, lineOf, Reading, bad, led, readFrom}
-use Rattle.sheet.proofs.Texts.{line-length, width-chip, width-register, width-entry}
+use Rattle.sheet.proofs.Texts.{line-length}
 use Rattle.sheet.proofs.Lines.{line-fits, line-below}
+use Rattle.sheet.proofs.Kept.{low-value}
 use Rattle.sheet_key.specs.Reader.{named, leads, after, onFrom, Right}
 use Rattle.sheet_key.specs.declared.Found.the-variants.{At, Bad}
 use Rattle.sheet_key.proofs.Leads.{leads-append, leads-bad, has, stop, skip}
@@ -20,15 +21,7 @@ use Rattle.sheet_key.proofs.Naming.{named-first, other-missing}
 
 -- a value is below 4,096
 below : (k v : ℕ) (t : List ℕ) → lineOf (keyAt k) t ≡ Has v → v < 4096
-below k v t e =
-    let h = line-below (keyAt k) t v e in
-    cases (ltb k 1)
-    (λ b. let l = ltb-true k 1 b in let s = rw (width-chip k l) at h in omega arith)
-    (λ b.
-    let g = ltb-false k 1 b in
-    cases (ltb k 5)
-    (λ b. let l = ltb-true k 5 b in let s = rw (width-register k g l) at h in omega arith)
-    (λ b. let l = ltb-false k 5 b in let s = rw (width-entry k l) at h in s))
+below k v t e = low-value k v (line-below (keyAt k) t v e)
 
 -- a line that is read
 module _ (t : List ℕ) (due k v n : ℕ) (from : due ≤ k) (to : k < keys) (is : k ≡ named t due)

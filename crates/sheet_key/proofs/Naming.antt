@@ -1,21 +1,18 @@
 -- The key that a line names. Assumes nothing.
-use Prim.Native.Nat.{ℕ, zero, suc, _+_, _-_, _*_, _/_, _%_, _≤_, _<_}
+use Prim.Native.Nat.{ℕ, _+_, _*_, _≤_, _<_}
 use mathlib.Core.Path.{_≡_, refl, sym}
 use mathlib.Core.Bool.{true}
-use mathlib.Core.List.{List, [], _∷_}
-use native.Mathlib.Omega.{arith}
-use lib.Dec.{ltb, eqb}
-use lib.ListN.{length, getD}
-use borrow.Author.Tests.{lt-ltb, le-ltb, ltb-true, ltb-false, eq-eqb, ne-eqb, eqb-true}
+use mathlib.Core.List.{List}
+use lib.Dec.{ltb}
+use lib.ListN.{getD}
+use borrow.Author.Tests.{lt-ltb, le-ltb, ltb-true, ltb-false, eq-eqb, ne-eqb}
 use Rattle.vocabulary.specs.Choice.{pick}
 use Rattle.vocabulary.proofs.Choice.{cases, picks-first}
-use Rattle.vocabulary.proofs.Range.{clash, both}
 use Rattle.sheet.specs.declared.Line.{Line}
 use Rattle.sheet.specs.declared.Line.the-variants.{Has, Missing}
-use Rattle.hex.specs.Hex.{hexDigit, hexValue, hex}
-use Rattle.hex.proofs.Digits.{value-digit}
-use Rattle.sheet.specs.Sheet.{keys, keyAt, front, lineText, starts, lineOf}
-use Rattle.sheet.proofs.Texts.{key-o, key-c}
+use Rattle.hex.specs.Hex.{hexValue}
+use Rattle.sheet.specs.Sheet.{keys, keyAt, lineText, starts, lineOf}
+use Rattle.sheet.proofs.Apart.{says-overlay, says-colour}
 use Rattle.sheet.proofs.Lines.{line-starts}
 use Rattle.sheet_key.specs.Reader.{named}
 
@@ -39,43 +36,15 @@ module _ (t : List ℕ) (due : ℕ) {a : ℕ} (d : 5 ≤ due) (first : a ≡ get
     unfolding named pick
     names-none h = rw (le-ltb due 5 d, sym first, ne-eqb a 111 g, ne-eqb a 99 h)
 
--- a word at the start of a text, byte by byte
-starts-at : (p t : List ℕ) (i : ℕ) → starts p t ≡ true → i < length p → getD t i 0 ≡ getD p i 0
-unfolding starts
-starts-at [] t i e h = absurd (let z : ⊥ = omega arith in z)
-starts-at (a ∷ p) [] i e h = clash (sym e)
-starts-at (a ∷ p) (b ∷ t) zero e h = sym (eqb-true a b (both (eqb a b) _ e .0))
-starts-at (a ∷ p) (b ∷ t) (suc i) e h = starts-at p t i (both (eqb a b) _ e .1) (omega arith)
-
 -- An entry's line that stands at the start of a text is the one that its first bytes name.
 module _ (k : ℕ) (t : List ℕ) (v due : ℕ) (d : 5 ≤ due) where
   named-o : 5 ≤ k → k < 9 → starts (lineText (keyAt k) v) t ≡ true → named t due ≡ k
-  unfolding named lineText front hex pick
-  named-o g h s =
-      let m : (k - 5) % 16 ≡ k - 5 = omega arith in
-      let s′ = rw (key-o k g h) at s in
-      let t0 : getD t 0 0 ≡ 111 = starts-at _ t 0 s′ (omega arith) in
-      let t1 : getD t 1 0 ≡ hexDigit ((k - 5) % 16) = starts-at _ t 1 s′ (omega arith) in
-      rw (le-ltb due 5 d, t0, t1, m, value-digit (k - 5) (omega arith)) (omega arith)
+  unfolding named pick
+  named-o g h s = let says = says-overlay k t v g h s in rw (le-ltb due 5 d, says .0) (says .1)
 
   named-c : 9 ≤ k → k < keys → starts (lineText (keyAt k) v) t ≡ true → named t due ≡ k
-  unfolding named lineText front hex pick
-  named-c g h s =
-      let m : (k - 9) / 16 % 16 ≡ (k - 9) / 16 = omega arith in
-      let s′ = rw (key-c k g) at s in
-      let t0 : getD t 0 0 ≡ 99 = starts-at _ t 0 s′ (omega arith) in
-      let t1 : getD t 1 0 ≡ hexDigit ((k - 9) / 16 % 16) = starts-at _ t 1 s′ (omega arith) in
-      let t2 : getD t 2 0 ≡ hexDigit ((k - 9) % 16) = starts-at _ t 2 s′ (omega arith) in
-      rw (
-        le-ltb due 5 d,
-        t0,
-        t1,
-        t2,
-        m,
-        value-digit ((k - 9) / 16) (omega arith),
-        value-digit ((k - 9) % 16) (omega arith),
-      )
-      (omega arith)
+  unfolding named pick
+  named-c g h s = let says = says-colour k t v g h s in rw (le-ltb due 5 d, says .0) (says .1)
 
   named-is : 5 ≤ k → k < keys → lineOf (keyAt k) t ≡ Has v → named t due ≡ k
   named-is g h e =

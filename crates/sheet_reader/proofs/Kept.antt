@@ -8,11 +8,10 @@ use lib.ListN.{length, take, drop, set, replicate, length-set, take-append-drop,
 use lib.Seq.{take-add, take-suc-set, drop-set-lt, drop-drop}
 use Rattle.vocabulary.specs.Choice.{pick}
 use Rattle.sheet.specs.declared.Line.{Line}
-use Rattle.sheet.specs.declared.Line.the-variants.{Has, Missing}
-use Rattle.sheet.specs.Sheet.{keys, keyAt, lineOf, Reading, good, bad, readFrom, sheetOf}
-use Rattle.sheet.specs.Kept.{lineFor, readingOf}
-use Rattle.sheet.proofs.Lines.{line-fits}
-use Rattle.sheet.proofs.Texts.{line-length}
+use Rattle.sheet.specs.declared.Line.the-variants.{Missing}
+use Rattle.sheet.specs.Sheet.{keys, Reading, good, bad, badLine, readFrom, sheetOf}
+use Rattle.sheet.specs.Kept.{numberFor, keptOf, lineFor}
+use Rattle.sheet.proofs.Apart.{nothing}
 use Rattle.sheet.proofs.Kept.{kept-has}
 use Rattle.sheet_key.specs.declared.Found.{Found}
 use Rattle.sheet_key.specs.declared.Found.the-variants.{At, Bad}
@@ -35,20 +34,32 @@ unfolding lineFor pick
 map-same zero = refl
 map-same (suc m) = ap (λ (l : List Line). Missing ∷ l) (map-same m)
 
--- a bad line: whatever is kept before it
-is-bad : (before kept : List ℕ) (n : ℕ) (r whole : Reading) → 1 ≤ n → r ≡ bad n
-    → leads (map lineFor before) r ≡ whole → readingOf n kept ≡ whole
-is-bad before kept zero r whole h e f = absurd (let z : ⊥ = omega arith in z)
-is-bad before kept (suc n) r whole h e f = sym (leads-bad (map lineFor before) (suc n)) ∙ (rw e at f)
+-- what is handed back: the bad line's number, and what is kept
+abbrev pub Hands : ℕ → List ℕ → Reading → Type 0
+Hands n kept r = (n ≡ badLine r) × (kept ≡ keptOf r)
+
+-- of a bad line its number, whatever is kept before it
+is-bad : (before : List ℕ) (n : ℕ) (r whole : Reading) → r ≡ bad n → leads (map lineFor before) r ≡ whole
+    → Hands n (replicate keys 4096) whole
+is-bad before n r whole e f = rw (sym (sym (leads-bad (map lineFor before) n) ∙ (rw e at f))) (refl, refl)
+
+-- A value in its place, of numbers that their lines give back.
+set-again : (kept : List ℕ) (k v : ℕ) → v < 4096 → map numberFor (map lineFor kept) ≡ kept
+    → map numberFor (map lineFor (set kept k v)) ≡ set kept k v
+set-again [] k v h e = e
+set-again (x ∷ l) zero v h e = rw (kept-has v h) (ap (λ (m : List ℕ). v ∷ m) (cc))
+set-again (x ∷ l) (suc k) v h e =
+    let rest = set-again l k v h (cc) in
+    cc
 
 -- What is read so far of a text: n - 1 lines, up to the place `at`, with the keys before `due`. From `due` on no line
 -- is kept yet, and the sheet from there on, behind all that is kept, is the whole.
 pub record SoFar (text kept : List ℕ) (due n at : ℕ) : Type 0 where
   pub keyed : due ≤ keys
   pub inside : at ≤ length text
-  pub from-one : 1 ≤ n
   pub counted : n ≤ due + 1
   pub long : length kept ≡ keys
+  pub again : map numberFor (map lineFor kept) ≡ kept
   pub rest : drop due kept ≡ replicate (keys - due) 4096
   pub whole : leads (map lineFor (take due kept)) (readFrom (keys - due) due n (drop at text)) ≡ sheetOf text
 
@@ -81,9 +92,9 @@ module _ (text kept : List ℕ) (due n at k v : ℕ) (is : SoFar text kept due n
   kept-on next inner e = record {
     keyed = omega arith;
     inside = inner;
-    from-one = omega arith;
     counted = omega (arith, is .counted);
     long = length-set kept k v ∙ is .long;
+    again = set-again kept k v h (is .again);
     rest = still-none;
     whole = rw keeps (leads-append (map lineFor (take due kept)) (after (k - due) v) _ ∙ (rw e at (is .whole)));
   }
@@ -96,18 +107,11 @@ module _ (text kept : List ℕ) (due n at : ℕ) (is : SoFar text kept due n at)
       let s = rw e at r in
       kept-on text kept due n at k v is (s .0 .0) (s .0 .1) (s .0 .2) next (s .0 .3) (s .1 n)
 
-  pub reads-bad : x ≡ Bad → readingOf n kept ≡ sheetOf text
+  pub reads-bad : x ≡ Bad → Hands n (replicate keys 4096) (sheetOf text)
   unfolding onFrom
-  reads-bad e = is-bad (take due kept) kept n _ _ (is .from-one) ((rw e at r) .1 n) (is .whole)
+  reads-bad e = is-bad (take due kept) n _ _ ((rw e at r) .1 n) (is .whole)
 
 -- the end of the text
-nothing-by : (k : ℕ) (x : Line) → lineOf (keyAt k) [] ≡ x → x ≡ Missing
-nothing-by k (Has v) e = absurd (let z : ⊥ = omega (arith, line-fits (keyAt k) [] v e, line-length (keyAt k) v) in z)
-nothing-by k Missing e = refl
-
-nothing : (k : ℕ) → lineOf (keyAt k) [] ≡ Missing
-nothing k = nothing-by k (lineOf (keyAt k) []) refl
-
 module _ (due n : ℕ) where
   end-bad : due < 5 → readFrom (keys - due) due n [] ≡ bad n
   end-bad h =
@@ -131,14 +135,15 @@ module _ (text kept : List ℕ) (due n at : ℕ) (is : SoFar text kept due n at)
       ∙ sym (map-append lineFor (take due kept) (drop due kept)) ∙ ap (map lineFor) (take-append-drop due kept)
 
   module _ (end : length text ≤ at) where
-    pub ends-bad : due < 5 → readingOf n kept ≡ sheetOf text
+    pub ends-bad : due < 5 → Hands n (replicate keys 4096) (sheetOf text)
     ends-bad h =
-        is-bad (take due kept) kept n _ _ (is .from-one) (rw (drop-of-length-le text end) (end-bad due n h)) (is .whole)
+        is-bad (take due kept) n _ _ (rw (drop-of-length-le text end) (end-bad due n h)) (is .whole)
 
-    pub ends-good : 5 ≤ due → readingOf 0 kept ≡ sheetOf text
+    pub ends-good : 5 ≤ due → Hands 0 kept (sheetOf text)
     ends-good h =
         let r : readFrom (keys - due) due n (drop at text) ≡ good (replicate (keys - due) Missing) =
         rw (drop-of-length-le text end) (end-good due n h) in
-        ap good (sym all-kept)
-        ∙ sym (leads-good (map lineFor (take due kept)) (replicate (keys - due) Missing))
-        ∙ (rw r at (is .whole))
+        let whole : sheetOf text ≡ good (map lineFor kept) =
+        sym (rw r at (is .whole))
+        ∙ leads-good (map lineFor (take due kept)) (replicate (keys - due) Missing) ∙ ap good all-kept in
+        rw whole (refl, sym (is .again))

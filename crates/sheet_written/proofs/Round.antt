@@ -1,11 +1,11 @@
 -- Reading what the writer wrote gives what was written. Assumes nothing.
 use Prim.Native.Nat.{ℕ, suc, _+_, _≤_}
-use mathlib.Core.Path.{_≡_, refl}
+use mathlib.Core.Path.{_≡_, refl, _∙_}
 use mathlib.Core.Bool.{false}
 use mathlib.Core.List.{List, [], _∷_, _++_, map, append-nil}
 use native.Mathlib.Omega.{arith}
-use lib.ListN.{length, take, drop}
-use lib.Seq.{drop-append-seam, take-append-seam}
+use lib.ListN.{length, take, drop, length-map}
+use lib.Seq.{take-append-seam}
 use borrow.Author.Tests.{eq-eqb}
 use Rattle.vocabulary.specs.Choice.{pick}
 use Rattle.vocabulary.specs.Refusal.{refusalOf}
@@ -16,25 +16,13 @@ use Rattle.vocabulary.proofs.Refusal.{none-exactly}
 use Rattle.hd153108.specs.Hd153108.{Chip, InRange}
 use Rattle.hd153108.proofs.InRange.{in-range}
 use Rattle.sheet.specs.declared.Line.the-variants.{Has}
-use Rattle.sheet.specs.Sheet.{keyAt, lineText, good, readFrom, sheetOf, coloursIn, values, chipLines, textFrom, textOf}
+use Rattle.sheet.specs.Sheet.{keys, keyAt, good, sheetOf, coloursIn, values, chipLines, textOf}
 use Rattle.sheet.specs.Sheet.{pasted, overFifteenIn, writeRefusals, write}
+use Rattle.sheet.specs.Grammar.{Lawful}
 use Rattle.sheet.proofs.Texts.{width-entry, takes-entry}
-use Rattle.sheet.proofs.Lines.{line-there}
-use Rattle.sheet.proofs.Good.{Lawful}
+use Rattle.sheet.proofs.Back.{lawful-good}
 use Rattle.sheet_written.specs.Writer.{Writable}
 use Rattle.sheet_written.proofs.Values.{low-first, length-values, writable}
-
--- lawful lines that are all there, key after key
-back : (vs : List ℕ) (k n : ℕ) → Lawful k (map Has vs)
-    → readFrom (length vs) k n (textFrom k (map Has vs)) ≡ good (map Has vs)
-unfolding readFrom textFrom
-back [] k n g = refl
-back (v ∷ vs) k n g =
-    rw (
-      line-there (keyAt k) v (textFrom (k + 1) (map Has vs)) (g .0) (g .1),
-      drop-append-seam (lineText (keyAt k) v) (textFrom (k + 1) (map Has vs)),
-      back vs (k + 1) (n + 1) (g .2),
-    )
 
 -- a table's colours, with no byte over 15, and lines behind them
 lawful-colours : (t : List ℕ) (k : ℕ) (rest : List ℕ) → 5 ≤ k → overFifteenIn t ≡ false
@@ -65,22 +53,32 @@ chip-lawful a w =
     let reserved = eq-eqb _ _ (s .nothing-reserved) in
     (omega arith, refl, (omega arith, refl, (omega arith, refl, (omega arith, reserved, (omega arith, refl, entries)))))
 
--- Law 4: reading what the writer wrote gives what was written, of any state and tables that it takes.
+-- Reading what the writer wrote gives what was written, of any state and tables that it takes.
 pub round : (a : Chip) → Writable a → sheetOf (textOf a) ≡ good (chipLines a)
 round a w =
-    rw (length-values a (w .overlays) (w .colours)) at (back (values a) 0 1 (chip-lawful a w))
+    let long : length (chipLines a) ≡ keys =
+    length-map (values a) Has ∙ length-values a (w .overlays) (w .colours) in
+    lawful-good (chipLines a) long (chip-lawful a w)
 
--- the same of a call that was accepted: its count of bytes of the buffer, read
-first-of : (out word : List ℕ) → take (length word) (pasted out 0 word) ≡ word
+-- the first bytes of a buffer that a word is written over are the word
+pub first-of : (out word : List ℕ) → take (length word) (pasted out 0 word) ≡ word
 unfolding pasted
 first-of out word = take-append-seam word (drop (0 + length word) out)
 
+-- a call that was accepted was of a chip that the writer takes
+pub write-writable : (a : Chip) (out : List ℕ) → write a out .refusal ≡ 0 → Writable a
+unfolding write
+write-writable a out e =
+    let n = accepted-none (refusalOf (writeRefusals a out)) 0 out _ e in
+    let (short-none, (range-none, (_, (_, (_, (_, (over-none, _))))))) = none-exactly (writeRefusals a out) n in
+    let low = neither (overFifteenIn (a .colours)) _ over-none in
+    writable a short-none range-none (low .0) (low .1)
+
+-- and its count of bytes of the buffer, read, gives what was written
 pub write-round : (a : Chip) (out : List ℕ) → write a out .refusal ≡ 0
     → sheetOf (take (write a out .count) (write a out .left)) ≡ good (chipLines a)
 unfolding write
 write-round a out e =
     let n = accepted-none (refusalOf (writeRefusals a out)) 0 out _ e in
-    let (short-none, (range-none, (_, (_, (_, (_, (over-none, _))))))) = none-exactly (writeRefusals a out) n in
-    let low = neither (overFifteenIn (a .colours)) _ over-none in
     let is : write a out ≡ accepting 0 (length (textOf a)) (pasted out 0 (textOf a)) = accepted-does 0 out _ n in
-    rw (is, first-of out (textOf a)) (round a (writable a short-none range-none (low .0) (low .1)))
+    rw (is, first-of out (textOf a)) (round a (write-writable a out e))

@@ -40,7 +40,7 @@ no-longer [] k = omega arith
 no-longer (Has v ∷ l) k = simp length-append (omega (arith, line-length (keyAt k) v, no-longer l (k + 1)))
 no-longer (Missing ∷ l) k = omega (arith, no-longer l (k + 1))
 
--- law 1, for sheets
+-- a sheet has at most 2,134 bytes
 pub sheet-bytes : (t : List ℕ) (l : List Line) → sheetOf t ≡ good l → length t ≤ 2134
 sheet-bytes t l e =
     let s = sound t l e in

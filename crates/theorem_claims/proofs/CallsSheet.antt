@@ -12,7 +12,7 @@ use Rattle.expand.specs.Expand.{refusals, expansion, meaning}
 use Rattle.hd153108.specs.Hd153108.{Chip}
 use Rattle.sheet.specs.declared.Answer.{Answer}
 use Rattle.sheet.specs.declared.Answer.the-variants.{Done, Refused}
-use Rattle.sheet.specs.Sheet.{sheetOf, badLine, writeRefusals, write, outcome, Heard, heard, telling}
+use Rattle.sheet.specs.Sheet.{sheetOf, badLine, writeRefusals, write, outcome, Heard}
 use Rattle.calls.specs.Calls.{callRefusals, sheetToCalls}
 use Rattle.vocabulary.specs.Judged.{Judged}
 use Rattle.theorem_claims.specs.Determined.{Determined, Numbered, Fills, Tells, Counts}

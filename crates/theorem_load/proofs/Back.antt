@@ -81,7 +81,7 @@ module _ (a b after : Chip) (w : Writable a) (l : Leaves (chipLines a) b after) 
       ∙ (ap (λ (x : List Line). filled (getD x e Missing) (colourAt e (tableOf t b))) (chip-entries a range t)
       ∙ listed (tableOf t a) e _ (low-table t) (omega arith)))
 
-  returned : Same a after
+  pub returned : Same a after
   unfolding values
   returned =
       let tables = same-tables a after range (l .inRange) same-entry in

@@ -14,7 +14,8 @@ use Rattle.sheet.specs.declared.Line.{Line}
 use Rattle.sheet.specs.declared.Line.the-variants.{Has, Missing}
 use Rattle.sheet.specs.Sheet.{keyAt, keys, sheetOf, good, registersOf, overlaysOf}
 use Rattle.sheet.proofs.Texts.{width-entry}
-use Rattle.sheet.proofs.Good.{Lawful, sound}
+use Rattle.sheet.specs.Grammar.{Lawful}
+use Rattle.sheet.proofs.Good.{sound}
 use Rattle.theorem_load.specs.Load.{entriesOf}
 
 -- ---- parts of lawful lines

@@ -9,3 +9,4 @@ pub mod Colours
 pub mod Back
 pub mod Cheats
 pub mod Buffers
+pub mod CallToCall

@@ -1,7 +1,9 @@
 use native.Mathlib.Omega.{arith}
 use Prim.Native.Nat.{_-_}
 use mathlib.Core.Path.{refl}
+use Rattle.vocabulary.specs.Choice.{pick}
 use Rattle.sheet.specs.Sheet.{keys}
+use Rattle.sheet.specs.Kept.{lineFor}
 use Rattle.sheet_key.specs.Reader.{leads, Inside}
 use Rattle.sheet_key.specs.declared.Found.the-variants.{At}
 use Rattle.sheet_reader.proofs.Kept.{SoFar, reads-on, reads-bad, ends-bad, ends-good}
@@ -23,13 +25,13 @@ inside : (c : tie.After-known-told Inv-loop μ-loop)
 inside c = (rw (c .before .k .given .1) at (c .before .before .before .line-at .ensures)) .0
 
 loop-holds : tie.Need-loop-holds Inv-loop μ-loop
-unfolding leads
+unfolding leads lineFor pick
 loop-holds c = record {
   keyed = search needs;
   inside = search needs;
-  from-one = search needs;
   counted = search needs;
   long = refl;
+  again = refl;
   rest = refl;
   whole = refl;
 }
@@ -40,13 +42,21 @@ array-write-kept c = let r = inside c in omega (arith, c .before .before .before
 loop-again : tie.Need-loop-again Inv-loop μ-loop
 loop-again c = search reads-on
 
+returns : tie.Need-returns Inv-loop μ-loop
+returns c =
+    reads-bad _ _ _ _ _ (c .before .before .before .before .loop .inv) (c .before .before .line-at .ensures)
+    (search needs)
+
 returns-2 : tie.Need-returns-2 Inv-loop μ-loop
-returns-2 c = search ends-good
+returns-2 c = ends-good _ _ _ _ _ (c .before .before .loop .inv) (search needs) (search needs)
+
+returns-3 : tie.Need-returns-3 Inv-loop μ-loop
+returns-3 c = ends-bad _ _ _ _ _ (c .before .before .loop .inv) (search needs) (search needs)
 
 pub read-spec : {M : Type 1} → statement M
 read-spec =
     tie.close
     (tie.spec Inv-loop μ-loop loop-holds (λ c κs. search needs) (λ c. search needs) (λ c. search needs)
-    (λ c. search (reads-bad, needs)) (λ c. search needs) (λ c. search needs) array-write-kept
+    returns (λ c. search needs) (λ c. search needs) array-write-kept
     (λ c. let r = inside c in omega arith) (λ c. search needs) (λ c. let r = inside c in omega arith) loop-again
-    returns-2 (λ c. search (ends-bad, needs)))
+    returns-2 returns-3)
