@@ -7,7 +7,9 @@
  *    but null. Nothing is allocated, and the library has no state of its own, so calls on different buffers may run at
  *    the same time.
  *  - Any input is allowed. Each call takes every value that its types hold and every length, never fails in another
- *    way than by a refusal, and always comes back. The lengths must be true: that much memory must be there.
+ *    way than by a refusal, and always comes back. The lengths must be true: that much memory must be there. Selects,
+ *    ports, bytes, an enable and an overlay number are 8 bits, as the chips' lines are: C cuts a larger number before
+ *    the call sees it, so that 256 comes in as 0 (-Wconversion warns).
  *  - Refusals are the numbers of zk_refusal_number, 0 for none. A refused call changes no lent byte, hands a state back
  *    as it was given, and answers 0 for every value and count; a malformed sheet's refusal also tells the line.
  *  - States are plain structs that the caller owns. They go in by value, and the state after the call comes back in the
