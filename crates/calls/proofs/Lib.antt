@@ -4,3 +4,4 @@ pub mod Lent
 pub mod Turn
 pub mod Ends
 pub mod Rules
+pub mod ByEntry
