@@ -186,6 +186,10 @@ pixel-stays resets c e = clash (sym e)
 pixel-stays ticks c e = clash (sym e)
 pixel-stays (looks place) c e = clash (sym e)
 
+-- a pixel is what the chip calls so
+pub pixels-named : (enable number byte : ℕ) → isPixel (pixels enable number byte) ≡ true
+pixels-named enable number byte = refl
+
 pub pixels-unnoticed : Unnoticed called isPixel
 pixels-unnoticed = unnoticed called isPixel pixel-stays
 

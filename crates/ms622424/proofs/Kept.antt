@@ -146,6 +146,13 @@ look-stays resets c e = clash (sym e)
 look-stays (looks place) c e =
     called-holds refusals does (looks place) c (λ (d : Chip). d ≡ c) refl (λ t. look-leaves place c)
 
+-- pixels and signals are what the chip calls so
+pub pixels-named : (mode word : ℕ) → isPixel (pixels mode word) ≡ true
+pixels-named mode word = refl
+
+pub signals-named : (s : ℕ) → isSignals (signals s) ≡ true
+signals-named s = refl
+
 pub pixels-unnoticed : Unnoticed called isPixel
 pixels-unnoticed = unnoticed called isPixel pixel-stays
 

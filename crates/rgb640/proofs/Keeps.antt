@@ -41,6 +41,11 @@ stays (reads port) c e =
 stays resets c e = clash (sym e)
 stays (looks place) c e = clash (sym e)
 
+-- reads of ports 4 and 5 are what is called so
+pub index-reads-named : (isIndexRead (reads 4) ≡ true) × (isIndexRead (reads 5) ≡ true)
+unfolding registerAt
+index-reads-named = (refl, refl)
+
 pub index-reads-unnoticed : Unnoticed called isIndexRead
 index-reads-unnoticed = unnoticed called isIndexRead stays
 

@@ -11,3 +11,4 @@ pub mod Begins
 pub mod None
 pub mod Grammar
 pub mod Kept
+pub mod Words

@@ -6,5 +6,3 @@ pub mod Short
 pub mod Unseen
 pub mod Made
 pub mod Accepting
-pub mod Fill
-pub mod Premises

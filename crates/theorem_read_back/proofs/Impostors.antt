@@ -21,8 +21,8 @@ use Rattle.ms622424.proofs.Kept.{called-keeps-range}
 use Rattle.ms622424.proofs.Moves.{all-stored-length}
 use Rattle.theorem_queue_unseen.specs.Unseen.{lastFor, byteAt}
 use Rattle.theorem_queue_unseen.proofs.Stored.{all-found, last-append}
-use Rattle.theorem_queue_unseen.specs.Premises.{zeros}
-use Rattle.theorem_queue_unseen.proofs.Premises.{zeros-in-range}
+use Rattle.theorem_premises.specs.Premises.{zeros}
+use Rattle.theorem_premises.proofs.Premises.{zeros-in-range}
 use Rattle.theorem_read_back.specs.ReadBackB.{storing, ReadsBack}
 use Rattle.theorem_read_back.specs.WrongB.{movesColours, spoilt, exchanged, storingExchanged}
 use Rattle.theorem_read_back.proofs.ReadBackB.{blanks-all, full, full-range, older, full-waits, leads}

@@ -20,9 +20,9 @@ use Rattle.ms622424.specs.Ms622424.{Chip, Entry, queueLengths, identRanges, InR
 use Rattle.ms622424.specs.Ms622424.{Moves, taken, written, writes, resets, refusals, does, called}
 use Rattle.ms622424.proofs.Kept.{fresh-in-range, called-keeps-range}
 use Rattle.ms622424.proofs.Moves.{room-left}
 use Rattle.theorem_queue_unseen.specs.Unseen.{areBytes}
-use Rattle.theorem_queue_unseen.specs.Premises.{forPalette}
+use Rattle.theorem_premises.specs.Premises.{forPalette}
 use Rattle.theorem_queue_unseen.proofs.Accepting.{palette-accepted}
 
 -- ---- a chip on its way: so many bytes taken since the reset, and no transfer yet
 pub record Filling (n : ℕ) (c : Chip) : Type 0 where

@@ -23,10 +23,10 @@ use Rattle.ms622424.specs.Ms622424.{writes, reads, blanks, resets, called}
 use Rattle.ms622424.proofs.Blank.{blank-does}
 use Rattle.ms622424.proofs.Kept.{called-keeps-range}
 use Rattle.ms622424.proofs.Moves.{moves-are, room-forced}
 use Rattle.theorem_queue_unseen.specs.Unseen.{NoReset, areBytes, byteOf, gunEntry, ReadsNoWaiting}
-use Rattle.theorem_queue_unseen.specs.Premises.{forPalette, emptied, Met, zeros}
+use Rattle.theorem_premises.specs.Premises.{forPalette, emptied, Met, zeros}
 use Rattle.theorem_queue_unseen.proofs.Accepting.{palette-accepted, initialized, table-read, pixel-accepted}
-use Rattle.theorem_queue_unseen.proofs.Fill.{Filling, fill, fresh-filling}
+use Rattle.theorem_premises.proofs.Fill.{Filling, fill, fresh-filling}
 
 -- ---- writes and blankings are no resets
 no-reset : (bytes : List ℕ) (c : Chip) → NoReset (forPalette bytes) c
