@@ -12,3 +12,4 @@ pub mod None
 pub mod Grammar
 pub mod Kept
 pub mod Words
+pub mod Over
