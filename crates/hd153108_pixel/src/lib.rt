@@ -17,18 +17,18 @@ ghost use Rattle.hd153108_pixel.specs.Place.{shownPlace};
 // The shown colour: three bytes of the chosen table, or no byte where the pixel is refused.
 pub fn pixel<'a>(
     s: State,
-    colours: &'a [u8],
-    overlays: &'a [u8],
     enable: u8,
     number: u8,
     byte: u8,
+    colours: &'a [u8],
+    overlays: &'a [u8],
 ) -> &'a [u8]
     ensures { λ r. ⌜ (now r
         ≡ pixelPart enable number byte (chip s (now (colours .entry)) (now (overlays .entry))) .left)
         × (0 < length (now r)
         → r .ptr ≡ shownPlace enable number byte s (colours .entry .ptr) (overlays .entry .ptr)) ⌝ }
 {
-    let p = picked(s, colours, overlays, enable, number, byte);
+    let p = picked(s, enable, number, byte, colours, overlays);
     match p {
         Pick::Colour(e) => {
             let at = 3 * e;

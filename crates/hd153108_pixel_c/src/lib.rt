@@ -32,16 +32,16 @@ fn shown_at(t: &[u8], e: usize) -> Shown
 #[no_mangle]
 pub extern "C" fn zk_a_pixel(
     s: State,
-    colours: &[u8],
-    overlays: &[u8],
     enable: u8,
     number: u8,
     byte: u8,
+    colours: &[u8],
+    overlays: &[u8],
 ) -> Shown
     ensures { λ r. ⌜ showing r (chip s (now (colours .entry)) (now (overlays .entry)))
         ≡ called (pixels enable number byte) (chip s (now (colours .entry)) (now (overlays .entry))) ⌝ }
 {
-    let p = picked(s, colours, overlays, enable, number, byte);
+    let p = picked(s, enable, number, byte, colours, overlays);
     match p {
         Pick::Colour(e) => shown_at(colours, e),
         Pick::Overlay(e) => shown_at(overlays, e),

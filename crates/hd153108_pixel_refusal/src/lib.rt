@@ -12,16 +12,16 @@ ghost use Rattle.hd153108.specs.Hd153108.{chip, pixels, called};
 #[no_mangle]
 pub extern "C" fn zk_a_pixel_refusal(
     s: State,
-    colours: &[u8],
-    overlays: &[u8],
     enable: u8,
     number: u8,
     byte: u8,
+    colours: &[u8],
+    overlays: &[u8],
 ) -> u8
     ensures { λ r. ⌜ r
         ≡ called (pixels enable number byte) (chip s (now (colours .entry)) (now (overlays .entry))) .refusal ⌝ }
 {
-    let p = picked(s, colours, overlays, enable, number, byte);
+    let p = picked(s, enable, number, byte, colours, overlays);
     match p {
         Pick::Colour(_) => 0,
         Pick::Overlay(_) => 0,

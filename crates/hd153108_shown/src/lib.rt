@@ -36,7 +36,7 @@ fn shows_colour(off: bool, enable: u8, control: u8, number: u8) -> bool
 }
 
 // The one decision: refusals 1 and 9, then the table and its entry.
-pub fn picked(s: State, colours: &[u8], overlays: &[u8], enable: u8, number: u8, byte: u8) -> Pick
+pub fn picked(s: State, enable: u8, number: u8, byte: u8, colours: &[u8], overlays: &[u8]) -> Pick
     ensures { λ r. ⌜ Picked enable number byte (chip s (now (colours .entry)) (now (overlays .entry))) r ⌝ }
 {
     let refusal = hd153108_range::standing(s, colours.len(), overlays.len());

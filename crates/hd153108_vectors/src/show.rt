@@ -104,15 +104,15 @@ pub fn pixel<'a>(s: State, line: &[u8], colours: &'a [u8], overlays: &'a [u8]) -
     let byte = script::byte(line, 8);
     let refusal = hd153108_pixel_refusal::zk_a_pixel_refusal(
         s,
-        colours,
-        overlays,
         enable,
         number,
         byte,
+        colours,
+        overlays,
     );
     let numbers = [enable, number, byte, refusal];
     fields(b"pixel enable=% number=% byte=% refused=%, shows", &numbers);
-    bytes(hd153108_pixel::pixel(s, colours, overlays, enable, number, byte));
+    bytes(hd153108_pixel::pixel(s, enable, number, byte, colours, overlays));
     s
 }
 

@@ -75,7 +75,7 @@ fn own(s: State, call: CallA, colours: &[u8], overlays: &[u8]) -> ATurn
     match call {
         CallA::Tick => ticked(s),
         CallA::Pixel(enable, number, byte) => {
-            let p = hd153108_pixel_c::zk_a_pixel(s, colours, overlays, enable, number, byte);
+            let p = hd153108_pixel_c::zk_a_pixel(s, enable, number, byte, colours, overlays);
             ATurn {
                 state: s,
                 text: answers_told::told(p.refusal, News::Colour(p.red, p.green, p.blue)),
