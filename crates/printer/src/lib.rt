@@ -1,14 +1,15 @@
-// Standard output behind a lent buffer: bytes wait there until there is no room for more.
+// Standard output behind a lent buffer: bytes wait there until they are flushed, or there is no room for more.
 //
 // Not modelled: what is printed, which no contract says; each function is proved safe, and ends.
 use libc::STDOUT_FILENO;
 ghost use Prim.Native.Nat.{_≤_};
 
-// Prints what waits.
-pub fn flush(out: &[u8], waiting: usize) {
+// Prints what waits: whether all of it was written.
+pub fn flush(out: &[u8], waiting: usize) -> bool {
     if waiting <= out.len() {
-        io::write_all(STDOUT_FILENO, &out[..waiting]);
+        return io::write_all(STDOUT_FILENO, &out[..waiting]);
     }
+    false
 }
 
 // Room for 16 bytes, made by printing what waits where there is none: how many wait then.

@@ -1,28 +1,20 @@
 // Reads a port log on standard input, puts it to one board, and prints what it answers.
 //
-// The replay's description decides; what a byte of the log does and answers is said by crate feed. Here are reading and
-// printing, which no contract speaks of: that is not modelled. It needs the same memory whatever comes in. The input is
-// read to its end, in at most as many turns as a u64 counts: a turn takes what was read up to a line's end, and reads
-// on where all of it was taken.
+// The replay's description decides; what a byte of the log does and answers is said by crate feed, and when more of it
+// is read by crate input. Here the two are put together: that is not modelled, since no contract speaks of what is read
+// and printed. It needs the same memory whatever comes in. The input is read to its end, in at most as many turns as a
+// u64 counts: a turn takes what was read up to a line's end, and reads on where all of it was taken.
 use board::Board;
 use feed_take::Fed;
-use libc::STDIN_FILENO;
+use input::Input;
 ghost use mathlib.Core.Path.{_≡_};
 ghost use Prim.Native.Nat.{_+_, _^_, _<_};
 ghost use lib.ListN.{length};
 
-// How many bytes were read, and how many of those were taken; and the turns that are left, none once the log ended.
-struct Input {
-    got: usize,
-    at: usize,
-    turns: u64,
-}
-
-// The board, how many bytes of a line are held, how many of the output wait, and the input.
+// The board, how many bytes of a line are held, and the input.
 struct Stand {
     board: Board,
     len: usize,
-    waiting: usize,
     input: Input,
 }
 
@@ -31,65 +23,8 @@ fn begun(board: Board) -> Stand {
     Stand {
         board: board,
         len: 0,
-        waiting: 0,
-        input: Input {
-            got: 0,
-            at: 0,
-            turns: u64::MAX,
-        },
+        input: input::begun(),
     }
-}
-
-// Nothing is left to read: a last line without LF counts.
-fn ended(len: usize, chunk: &mut [u8]) -> usize {
-    if len > 0 && chunk.len() > 0 {
-        chunk[0] = b'\n';
-        return 1;
-    }
-    0
-}
-
-// Reads once; nothing, or a failure, ends the log.
-fn read(i: Input, len: usize, chunk: &mut [u8]) -> Input
-    requires { ⌜ 0 < i .turns ⌝ }
-    ensures { λ r. ⌜ r .turns < i .turns ⌝ }
-{
-    let got = io::count(libc::read(STDIN_FILENO, chunk), chunk);
-    if got > 0 {
-        return Input {
-            got: got,
-            at: 0,
-            turns: i.turns - 1,
-        };
-    }
-    Input {
-        got: ended(len, chunk),
-        at: 0,
-        turns: 0,
-    }
-}
-
-// A turn less, with something read that is not yet taken, unless the log has ended.
-fn next(i: Input, len: usize, chunk: &mut [u8]) -> Input
-    requires { ⌜ 0 < i .turns ⌝ }
-    ensures { λ r. ⌜ r .turns < i .turns ⌝ }
-{
-    if i.at < i.got {
-        let mut n = i;
-        n.turns = i.turns - 1;
-        return n;
-    }
-    read(i, len, chunk)
-}
-
-// What was read and not yet taken.
-fn rest(chunk: &[u8], at: usize, got: usize) -> &[u8]
-    ensures { λ r. ⌜ at + length (now r) < 2 ^ 64 ⌝ }
-{
-    if at <= got && got <= chunk.len() {
-        return &chunk[at..got];
-    }
-    &chunk[..0]
 }
 
 // The answer behind what waits: its text, and behind it the page's first bytes.
@@ -105,13 +40,10 @@ fn taken(i: Input, f: Fed, waiting: usize) -> Stand
     ensures { λ r. ⌜ r .input .turns ≡ i .turns ⌝ }
 {
     let after = f.step.board;
-    let mut n = i;
-    n.at = i.at + f.taken;
     Stand {
         board: after,
         len: f.len,
-        waiting: waiting,
-        input: n,
+        input: input::take(i, f.taken, waiting),
     }
 }
 
@@ -144,7 +76,7 @@ fn turn(
         table,
         page,
     );
-    taken(i, f, say(f, page, out, s.waiting))
+    taken(i, f, say(f, page, out, i.waiting))
 }
 
 // The whole log.
@@ -161,11 +93,11 @@ fn replay(
     out: &mut [u8; 65536],
 ) {
     while s.input.turns > 0 {
-        let i = next(s.input, s.len, chunk);
+        let i = input::next(s.input, s.len, chunk, out);
         s = turn(
             s,
             i,
-            rest(chunk, i.at, i.got),
+            input::rest(chunk, i.at, i.got),
             hold,
             colours,
             overlays,
@@ -176,7 +108,7 @@ fn replay(
             out,
         );
     }
-    printer::flush(out, s.waiting);
+    printer::flush(out, s.input.waiting);
 }
 
 fn main() {
