@@ -1,9 +1,8 @@
 // Standard input in pieces, beside an output that waits in a buffer: what was read is answered before more is read.
 //
 // The replay's description decides: a tool may wait for an answer before it sends the next line. specs/Input.antt says
-// when a read may be made (`Answered`); `read` asks for it, so that no program is proved that reads before. Where the
-// output can't be written any more, nothing more is read. Not modelled: what is read and printed, which no contract
-// says.
+// when a read may be made (`Answered`); `read` asks for it, so that a read before is refused. Where the output can't be
+// written any more, nothing more is read. Not modelled: what is read and printed, which no contract says.
 use libc::STDIN_FILENO;
 ghost use mathlib.Core.Path.{_≡_};
 ghost use Prim.Native.Nat.{_+_, _^_, _<_};

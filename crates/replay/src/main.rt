@@ -1,9 +1,9 @@
 // Reads a port log on standard input, puts it to one board, and prints what it answers.
 //
 // The replay's description decides; what a byte of the log does and answers is said by crate feed, and when more of it
-// is read by crate input. Here the two are put together: that is not modelled, since no contract speaks of what is read
-// and printed. It needs the same memory whatever comes in. The input is read to its end, in at most as many turns as a
-// u64 counts: a turn takes what was read up to a line's end, and reads on where all of it was taken.
+// is read by crate input. It needs the same memory whatever comes in. The input is read to its end, unless the output
+// can't be written, in at most as many turns as a u64 counts: a turn takes what was read up to a line's end, and reads
+// on where all of it was taken. Not modelled: what is read and printed, which no contract says.
 use board::Board;
 use feed_take::Fed;
 use input::Input;
