@@ -5,19 +5,24 @@ use crate::gen::Random;
 use crate::{gen_log, gen_sheet, replay, sheet};
 use std::collections::BTreeMap;
 use std::fs::{create_dir_all, remove_file, write, File};
-use std::process::{Command, Stdio};
+use std::process::Command;
 
 const LOGS: usize = 24;
 const LOG_TASKS: usize = 400;
 const SHEETS: usize = 60;
 
-/// What a program prints for the input in a file.
-fn printed(program: &str, input: &str) -> Vec<u8> {
+/// What a program does with the input in a file: what it prints, what it says on standard error, and its status.
+struct Ran {
+    printed: Vec<u8>,
+    said: String,
+    status: i32,
+}
+
+fn run(program: &str, input: &str) -> Ran {
     let input = File::open(input).expect("the input just written");
-    let run = Command::new("host/program").arg(program).stdin(input).stderr(Stdio::inherit()).output();
-    let run = run.expect("host/program runs");
-    assert!(run.status.success(), "host/program {}: {}", program, run.status);
-    run.stdout
+    let run = Command::new("./zikombaru").arg(program).stdin(input).output().expect("./zikombaru runs");
+    let said = String::from_utf8_lossy(&run.stderr).into_owned();
+    Ran { printed: run.stdout, said, status: run.status.code().unwrap_or(-1) }
 }
 
 /// An input in a file, which stays there where the two differ on it.
@@ -45,7 +50,8 @@ fn kind(answer: &[u8]) -> String {
 /// One log: its answers line by line.
 fn log(t: &mut Test, number: usize, log: &[u8], met: &mut BTreeMap<String, usize>) {
     let file = kept("log", number, log);
-    let ours = printed("replay", &file);
+    let Ran { printed: ours, said, status } = run("replay", &file);
+    t.same(|| format!("standard error and status for {}", file), &(said, status), &(String::new(), 0));
     let (mut at, mut same) = (0, true);
     for (i, (line, answer)) in log.split_inclusive(|b| *b == b'\n').zip(replay::replay(log)).enumerate() {
         let told = &ours[at..ours.len().min(at + answer.len())];
@@ -75,6 +81,19 @@ pub fn logs(t: &mut Test) {
     }
 }
 
+/// Status and standard error: of a good sheet 0 and nothing, of a refused one 1 and its line with a reason.
+fn told(t: &mut Test, file: &str, ran: &Ran, second: &str) {
+    let (status, line) = match second.strip_prefix("refused=8\nline=") {
+        Some(line) => (1, format!("zikombaru: standard input, line {}: ", line.trim_end())),
+        None => (0, String::new()),
+    };
+    let reason = ran.said.strip_prefix(line.as_str()).unwrap_or("").trim_end();
+    let fits = !reason.is_empty() && !reason.ends_with("no line of a sheet");
+    let told = if status == 0 { ran.said.is_empty() } else { fits };
+    t.same(|| format!("the status for {}", file), &ran.status, &status);
+    t.same(|| format!("a reason for {}, in {:?}", file, ran.said), &told, &true);
+}
+
 /// Random sheets, as `loadlist` prints their calls or their first bad line.
 pub fn sheets(t: &mut Test) {
     let mut r = Random::new(t.random());
@@ -82,7 +101,10 @@ pub fn sheets(t: &mut Test) {
     for number in 0..SHEETS * times() {
         let input = gen_sheet::any_sheet(&mut r);
         let file = kept("sheet", number, &input);
-        let (ours, second) = (printed("loadlist", &file), sheet::loadlist(&input).into_bytes());
+        let second = sheet::loadlist(&input).into_bytes();
+        let ran = run("loadlist", &file);
+        told(t, &file, &ran, &text(&second));
+        let ours = ran.printed;
         t.same(|| format!("the start of what is printed for {}", file), &text(&ours), &text(&second));
         t.same(|| format!("all that is printed for {}", file), &(ours == second), &true);
         if ours == second {
