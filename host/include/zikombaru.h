@@ -1,68 +1,72 @@
-/* zikombaru.h: the proved stand-in for the HD153108, the MS622424 and the palette port of the RGB640, from C99 or C++.
+/* zikombaru.h: the proved stand-in for the HD153108, the MS622424 and the palette port of the RGB640, from C99 or
+ * C++11 on. It brings all parts: a header for each chip, for looks, for chip A's sheets, and for what they share.
+ *
+ * The library, libzikombaru.a, is for x86-64 Linux. It allocates nothing and makes no system call; of the C library it
+ * needs memcpy, memmove and memset alone.
  *
  * Conventions, for every call of this library:
  *
- *  - Memory. The caller owns every buffer. A call is lent it as a pointer and a length, in elements, for the time of
- *    the call, and keeps no pointer. Buffers of one call do not overlap. The pointer of an empty buffer may be anything
- *    but null. Nothing is allocated, and the library has no state of its own, so calls on different buffers may run at
- *    the same time.
+ *  - Memory. The caller owns every buffer. A call is lent it as a pointer and a length for the time of the call, and
+ *    keeps no pointer. LENGTHS ARE IN ELEMENTS, not in bytes: 64 for chip B's queue of 64-bit numbers, 3,072 for
+ *    chip C's table of 16-bit numbers. Buffers of one call do not overlap. The pointer of an empty buffer may be
+ *    anything but null. The library has no state of its own, so calls on different buffers may run at the same time.
  *  - Any input is allowed. Each call takes every value that its types hold and every length, never fails in another
  *    way than by a refusal, and always comes back. The lengths must be true: that much memory must be there. Selects,
  *    ports, bytes, an enable and an overlay number are 8 bits, as the chips' lines are: C cuts a larger number before
  *    the call sees it, so that 256 comes in as 0 (-Wconversion warns).
- *  - Refusals are the numbers of zk_refusal_number, 0 for none. A refused call changes no lent byte, hands a state back
- *    as it was given, and answers 0 for every value and count; a malformed sheet's refusal also tells the line.
- *  - States are plain structs that the caller owns. They go in by value, and the state after the call comes back in the
- *    answer of each call that may change it. The chips' calls are in zikombaru_hd153108.h (zk_a_),
- *    zikombaru_ms622424.h (zk_b_), zikombaru_rgb640.h (zk_c_) and, for chip A's sheets, zikombaru_sheet.h (zk_sheet_),
- *    which this file brings.
+ *  - Order of arguments, in every call: the state; then select, port or place, and byte; then the lent tables, each as
+ *    pointer and length. Select and byte are both numbers of 8 bits, so that no compiler sees the two exchanged: write
+ *    the select by its name.
+ *  - Refusals are the numbers of zk_refusal_number, 0 for none; zk_refusal_text has them in words. A refused call
+ *    changes no lent byte, hands a state back as it was given, and answers 0 for every value and count; a malformed
+ *    sheet's refusal also tells the line. Where two are due, the one that is tried first is given.
+ *  - States are plain structs that the caller owns, with each field's range beside it; a call that is handed one
+ *    outside its ranges is ZK_OUT_OF_RANGE. They go in by value, and the state after the call comes back in the answer
+ *    of each call that may change it: drop the answer, and the call was not made.
+ *  - Chips. Who does not want to keep state and tables apart takes a zk_a_chip, zk_b_chip or zk_c_chip, which holds
+ *    both, and the calls named after it (zk_a_chip_write and so on): the same calls, that keep the state in the chip.
  *  - Answers. The expanders and the calls on sheets answer one number of 64 bits: zk_refusal, zk_value, zk_count,
  *    zk_line read it. The chips' calls answer a struct with the refusal first, or the refusal alone; a look, which
- *    changes nothing, answers a zk_looked on each chip (zikombaru_look.h).
- */
+ *    changes nothing, answers a zk_looked on each chip. gcc and clang warn where an answer is dropped (ZK_ANSWER).
+ *  - Names. zk_a_ is chip A (zikombaru_hd153108.h), zk_b_ chip B (zikombaru_ms622424.h), zk_c_ chip C
+ *    (zikombaru_rgb640.h), zk_sheet_ chip A's sheets (zikombaru_sheet.h).
+ *
+ * Not modelled: analogue output, clocks, pipeline delay, bus timing. */
 #ifndef ZIKOMBARU_H
 #define ZIKOMBARU_H
 
-#include <stddef.h>
-#include <stdint.h>
+#include "zikombaru_common.h"
+#include "zikombaru_hd153108.h"
+#include "zikombaru_ms622424.h"
+#include "zikombaru_rgb640.h"
+#include "zikombaru_sheet.h"
 
 #ifdef __cplusplus
 extern "C" {
 #endif
 
-/* The nine refusals, tried in the order 1, 9, 3, 4, 5, 6, 2, 8, 7. */
-enum zk_refusal_number {
-    ZK_ACCEPTED = 0,
-    ZK_LENT_LENGTH = 1,   /* a lent table hasn't its length */
-    ZK_OVER_FIFTEEN = 2,  /* the sheet writer meets a table byte over 15 */
-    ZK_NO_ACCESS = 3,     /* no such select or port, an access that it does not have, or no such place of a look */
-    ZK_NO_INDEX = 4,      /* RGB640: data access at an index that names nothing, or against its direction */
-    ZK_READ_MODE = 5,     /* MS622424: write to 2 in read mode, read of 2 outside it */
-    ZK_STILL_WAITING = 6, /* MS622424: read of 2 with entries waiting */
-    ZK_SHORT_BUFFER = 7,  /* output buffer shorter than what is to be written */
-    ZK_MALFORMED = 8,     /* sheet malformed; the line is told */
-    ZK_OUT_OF_RANGE = 9   /* a state or argument outside its range */
-};
+/* The version of this header. While the major number is 0, the minor one steps when a caller must change something. */
+#define ZK_VERSION_MAJOR 0
+#define ZK_VERSION_MINOR 1
+#define ZK_VERSION_PATCH 0
+#define ZK_VERSION_TEXT "0.1.0"
+#define ZK_VERSION (ZK_VERSION_MAJOR * 65536 + ZK_VERSION_MINOR * 256 + ZK_VERSION_PATCH)
 
-/* How a 64-bit answer is read: bits 0 to 7 the refusal, 8 to 15 spare, 16 to 31 the value, 32 to 47 the count, 48 to
- * 63 the line. */
-static inline unsigned zk_refusal(uint64_t answer) { return (unsigned)(answer & 0xff); }
-static inline unsigned zk_value(uint64_t answer) { return (unsigned)(answer >> 16 & 0xffff); }
-static inline unsigned zk_count(uint64_t answer) { return (unsigned)(answer >> 32 & 0xffff); }
-static inline unsigned zk_line(uint64_t answer) { return (unsigned)(answer >> 48); }
+/* The version of the library that is linked: the same packed number, and the same text, with zeros behind it. */
+typedef struct zk_text {
+    char text[8];
+} zk_text;
 
-/* A component of 8 or of 6 bits as ten (RGB640, Tables 23 to 25); zk_value reads them. One that the width does not
- * hold, 256 and over or 64 and over, is ZK_OUT_OF_RANGE. */
-uint64_t zk_expand8(uint32_t component);
-uint64_t zk_expand6(uint32_t component);
+ZK_ANSWER uint32_t zk_version(void);
+ZK_ANSWER zk_text zk_version_text(void);
+
+/* A component of 8 or of 6 bits as ten (RGB640, Tables 23 to 25): 4v + v/64, and 16v + v/4, rounded down. zk_value
+ * reads them. One that the width does not hold, 256 and over or 64 and over, is ZK_OUT_OF_RANGE. */
+ZK_ANSWER uint64_t zk_expand8(uint32_t component);
+ZK_ANSWER uint64_t zk_expand6(uint32_t component);
 
 #ifdef __cplusplus
 }
 #endif
-
-#include "zikombaru_hd153108.h"
-#include "zikombaru_ms622424.h"
-#include "zikombaru_rgb640.h"
-#include "zikombaru_sheet.h"
 
 #endif
