@@ -2,7 +2,7 @@
 //!
 //! Document 01, "Chip A" and "The nine refusals", decides, over data sheet 003: Tables 1.1 and 1.2 (selects, overlay
 //! control), 2 and 3 (pointer and address), 4 (overlay or colour), 5.1 and 5.2 (blink times); then the rulings under
-//! "All chips" and "Chip A". Of the look, document 02, P5, and REPLAY.md's list of places. Of the test for overlay
+//! "All chips" and "Chip A". Of the look, document 02, P5, and the replay's list of places. Of the test for overlay
 //! number 0, document 02, P3, over document 01.
 //!
 //! Doubts and choices:

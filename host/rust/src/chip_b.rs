@@ -2,7 +2,7 @@
 //!
 //! Document 01, "Chip B" and "The nine refusals", decides, over data sheet 004: the truth table with its notes 1 and
 //! 2, the register tables, "Write FIFO", PIX.RGB0 and 1, RSB; then the rulings under "All chips" and "Chip B". Of the
-//! look, document 02, P5, and REPLAY.md's list of places.
+//! look, document 02, P5, and the replay's list of places.
 //!
 //! The queue is lent beside the map: 64 places, one entry a place, oldest first, unused places zero. In a place red
 //! has bits 0 to 7, green 8 to 15, blue 16 to 23, and the address has the rest from bit 24 up.

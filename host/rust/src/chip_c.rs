@@ -2,7 +2,7 @@
 //!
 //! Document 01, "Chip C" and "The nine refusals", decides, over data sheet 001: sections 9.3 and 9.4.1, Tables 23 to
 //! 26, and 10.15 (register 0x000E: bit 2 for reads, bit 1 for writes, 0 enables); then the rulings under "All chips"
-//! and "Chip C". Of the look, document 02, P5, and REPLAY.md's list of places.
+//! and "Chip C". Of the look, document 02, P5, and the replay's list of places.
 //!
 //! Doubts and choices:
 //! - A third write leaves the latches as they are; nothing says that it clears them.

@@ -54,10 +54,10 @@ extern "C" {
     fn zk_a_step(k: LibClock) -> LibClockAnswer;
     fn zk_a_tick(k: *mut LibClock) -> u8;
     fn zk_a_pixel(
-        s: LibState, colours: *const u8, n: usize, overlays: *const u8, m: usize, enable: u8, number: u8, byte: u8,
+        s: LibState, enable: u8, number: u8, byte: u8, colours: *const u8, n: usize, overlays: *const u8, m: usize,
     ) -> LibShown;
     fn zk_a_pixel_refusal(
-        s: LibState, colours: *const u8, n: usize, overlays: *const u8, m: usize, enable: u8, number: u8, byte: u8,
+        s: LibState, enable: u8, number: u8, byte: u8, colours: *const u8, n: usize, overlays: *const u8, m: usize,
     ) -> u8;
 }
 
@@ -139,9 +139,9 @@ fn pixel(c: &Chip, enable: u8, number: u8, byte: u8) -> Answer {
     let (n, m) = (c.colours.len(), c.overlays.len());
     let (colours, overlays) = (c.colours.as_ptr(), c.overlays.as_ptr());
     let s = state_in(c.state);
-    let shown = unsafe { zk_a_pixel(s, colours, n, overlays, m, enable, number, byte) };
+    let shown = unsafe { zk_a_pixel(s, enable, number, byte, colours, n, overlays, m) };
     let s = state_in(c.state);
-    let refusal = unsafe { zk_a_pixel_refusal(s, colours, n, overlays, m, enable, number, byte) };
+    let refusal = unsafe { zk_a_pixel_refusal(s, enable, number, byte, colours, n, overlays, m) };
     assert_eq!(refusal, shown.refusal, "the pixel's two refusals on {:?}", c.state);
     Answer { refusal, ..colour([shown.red, shown.green, shown.blue]) }
 }

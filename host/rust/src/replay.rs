@@ -1,6 +1,6 @@
 //! The port log and its answers: what the program `replay` prints.
 //!
-//! REPLAY.md decides the lines and the answers, document 01 what the calls do.
+//! The replay's description decides the lines and the answers, document 01 what the calls do.
 //!
 //! Doubts and choices:
 //! - Every answer line ends in LF, also the answer to a last log line that lacks it.
