@@ -127,7 +127,7 @@ takes() {
 make_program() {
     local all
     all=$(reached "$1" | wc -l)
-    takes "$1" "$all" 3
+    takes "$1" "$all" 4
     check_shown "$1" "$all" "$1"
 }
 
