@@ -1,20 +1,10 @@
 /* Calls of one prefix on any input: random states, tables, lengths and sheets, good and bad, so that the library and
  * plain C are seen to refuse alike. Compiled with PREFIX zk and plain. */
+#include "random.h"
 #include "works.h"
 
 #include <string.h>
 
-#define JOIN_(a, b) a##_##b
-#define JOIN(a, b) JOIN_(a, b)
-#define CALL(name) JOIN(PREFIX, name)
-
-static uint64_t seed;
-static uint32_t below(uint32_t n) {
-    uint64_t z = (seed += 0x9e3779b97f4a7c15u);
-    z = (z ^ (z >> 30)) * 0xbf58476d1ce4e5b9u;
-    z = (z ^ (z >> 27)) * 0x94d049bb133111ebu;
-    return (uint32_t)((z ^ (z >> 31)) % n);
-}
 /* mostly below n, now and then n, or any number of so many bits */
 static uint32_t near(uint32_t n, unsigned bits) {
     if (below(40) != 0) return below(n);
@@ -23,17 +13,11 @@ static uint32_t near(uint32_t n, unsigned bits) {
 static size_t length(size_t n) { return below(40) ? n : below((uint32_t)n); }
 
 static void see(struct seen *seen, const void *answer, size_t n) {
-    const uint8_t *bytes = answer;
     seen->calls++;
-    for (size_t i = 0; i < n; i++) seen->number = (seen->number ^ bytes[i]) * 0x100000001b3u;
+    seen->number = checksum(seen->number, answer, n);
 }
-#define SEE(call, type)          \
-    do {                         \
-        type a = call;           \
-        see(seen, &a, sizeof a); \
-    } while (0)
-#define SEE_B(call) SEE(flat_b(call), struct flat_b)
-#define SEE_LOOK(call) SEE(flat_look(call), struct flat_look)
+static void see_row(struct seen *seen, struct flat row) { see(seen, &row, sizeof row); }
+static void see_number(struct seen *seen, uint64_t answer) { see(seen, &answer, sizeof answer); }
 
 /* a place of the state, which has so many, or of a block; now and then one to either side of it, or any number */
 static uint32_t look_at(uint32_t numbers, uint32_t first, uint32_t length) {
@@ -62,14 +46,15 @@ static void any_a(struct lent *l, struct seen *seen) {
     size_t m = length(sizeof l->colours), n = length(sizeof l->overlays), size = length(sizeof l->sheet);
     uint32_t place = below(4) ? look_at(9, ZK_A_LOOK_COLOURS, 768) : look_at(9, ZK_A_LOOK_OVERLAYS, 12);
     c[below(768)] = below(100) ? 3 : 16;
-    switch (below(7)) {
-    case 0: SEE(CALL(a_write)(s, select, byte, c, m, o, n), zk_a_answer); break;
-    case 1: SEE(CALL(a_read)(s, select, c, m, o, n), zk_a_answer); break;
-    case 2: SEE(CALL(a_pixel)(s, c, m, o, n, enable, number, byte), zk_a_shown); break;
-    case 3: SEE(CALL(a_step)(s.clock), zk_a_clock_answer); break;
-    case 4: SEE(CALL(a_reset)(s), zk_a_answer); break;
-    case 5: SEE_LOOK(CALL(a_look)(s, place, c, m, o, n)); break;
-    default: SEE(CALL(sheet_write)(s, c, m, o, n, l->sheet, size), uint64_t);
+    switch (below(8)) {
+    case 0: see_row(seen, flat_a(CALL(a_write)(s, select, byte, c, m, o, n))); break;
+    case 1: see_row(seen, flat_a(CALL(a_read)(s, select, c, m, o, n))); break;
+    case 2: see_row(seen, flat_shown_a(CALL(a_pixel)(s, enable, number, byte, c, m, o, n))); break;
+    case 3: see_row(seen, flat_clock(CALL(a_step)(s.clock))); break;
+    case 4: see_row(seen, flat_a(CALL(a_reset)(s))); break;
+    case 5: see_row(seen, flat_look(CALL(a_look)(s, place, c, m, o, n))); break;
+    case 6: see_number(seen, CALL(a_pixel_refusal)(s, enable, number, byte, c, m, o, n)); break;
+    default: see_number(seen, CALL(sheet_write)(s, c, m, o, n, l->sheet, size));
     }
     for (unsigned i = 0; i < 768; i++) c[i] &= 15;
 }
@@ -92,6 +77,7 @@ static void any_b(struct lent *l, struct seen *seen) {
     zk_b_state s = state_b();
     uint8_t select = near(8, 8), byte = below(256), mode = near(4, 8), signals = near(16, 8), *m = l->map;
     uint32_t slots = below(2) ? below(70) : near(65536, 17), word = near(1 << 24, 30);
+    uint32_t place = look_at(9, ZK_B_LOOK_MAP, ZK_B_MAP);
     size_t places = length(ZK_B_PLACES), bytes = length(sizeof l->map);
     for (unsigned i = 0; i < ZK_B_PLACES; i++) {
         l->queue[i] = i < s.fifo.waiting ? (uint64_t)below(8192) << 24 : 0;
@@ -99,13 +85,13 @@ static void any_b(struct lent *l, struct seen *seen) {
     }
     if (below(20) == 0) l->queue[below(ZK_B_PLACES)] = (uint64_t)1 << below(64);
     switch (below(7)) {
-    case 0: SEE_B(CALL(b_write)(s, select, byte, l->queue, places, m, bytes)); break;
-    case 1: SEE_B(CALL(b_read)(s, select, l->queue, places, m, bytes)); break;
-    case 2: SEE_B(CALL(b_blank)(s, slots, l->queue, places, m, bytes)); break;
-    case 3: SEE(CALL(b_pixel)(s, mode, word, l->queue, places, m, bytes), zk_b_shown); break;
-    case 4: SEE_B(CALL(b_sync)(s, signals, l->queue, places)); break;
-    case 5: SEE_LOOK(CALL(b_look)(s, look_at(9, ZK_B_LOOK_MAP, ZK_B_MAP), l->queue, places, m, bytes)); break;
-    default: SEE_B(CALL(b_reset)(s, l->queue, places));
+    case 0: see_row(seen, flat_b(CALL(b_write)(s, select, byte, l->queue, places, m, bytes))); break;
+    case 1: see_row(seen, flat_b(CALL(b_read)(s, select, l->queue, places, m, bytes))); break;
+    case 2: see_row(seen, flat_b(CALL(b_blank)(s, slots, l->queue, places, m, bytes))); break;
+    case 3: see_row(seen, flat_shown_b(CALL(b_pixel)(s, mode, word, l->queue, places, m, bytes))); break;
+    case 4: see_row(seen, flat_b(CALL(b_sync)(s, signals, l->queue, places))); break;
+    case 5: see_row(seen, flat_look(CALL(b_look)(s, place, l->queue, places, m, bytes))); break;
+    default: see_row(seen, flat_b(CALL(b_reset)(s, l->queue, places)));
     }
     see(seen, l->queue, sizeof l->queue);
 }
@@ -129,14 +115,14 @@ static void any_c(struct lent *l, struct seen *seen) {
     zk_c_state s = state_c();
     uint8_t port = (uint8_t)(4 + near(3, 8)), byte = below(256);
     uint32_t component = near(256, 30);
-    size_t n = length(3072);
+    size_t n = length(ZK_C_TABLE);
     switch (below(6)) {
-    case 0: SEE(CALL(c_write)(s, port, byte, l->table, n), zk_c_answer); break;
-    case 1: SEE(CALL(c_read)(s, port, l->table, n), zk_c_answer); break;
-    case 2: SEE(CALL(c_reset)(s), zk_c_answer); break;
-    case 3: SEE(CALL(expand8)(component), uint64_t); break;
-    case 4: SEE_LOOK(CALL(c_look)(s, look_at(8, ZK_C_LOOK_TABLE, 3072), l->table, n)); break;
-    default: SEE(CALL(expand6)(component), uint64_t);
+    case 0: see_row(seen, flat_c(CALL(c_write)(s, port, byte, l->table, n))); break;
+    case 1: see_row(seen, flat_c(CALL(c_read)(s, port, l->table, n))); break;
+    case 2: see_row(seen, flat_c(CALL(c_reset)(s))); break;
+    case 3: see_number(seen, CALL(expand8)(component)); break;
+    case 4: see_row(seen, flat_look(CALL(c_look)(s, look_at(8, ZK_C_LOOK_TABLE, ZK_C_TABLE), l->table, n))); break;
+    default: see_number(seen, CALL(expand6)(component));
     }
 }
 
@@ -157,15 +143,15 @@ static void any_sheet(struct lent *l, struct seen *seen) {
     }
     if (n > 0 && below(8) == 0) n = below((uint32_t)n);
     uint64_t answer = CALL(sheet_to_calls)(text, n, l->calls, sizeof l->calls);
-    see(seen, &answer, sizeof answer);
+    see_number(seen, answer);
     /* and with a buffer that just holds the list, or is short by one */
     size_t room = 2 * zk_count(answer);
-    SEE(CALL(sheet_to_calls)(text, n, l->calls, room - (room > 0 && below(2))), uint64_t);
+    see_number(seen, CALL(sheet_to_calls)(text, n, l->calls, room - (room > 0 && below(2))));
     see(seen, l->calls, sizeof l->calls);
 }
 
 void CALL(any)(struct lent *lent, struct seen *seen) {
-    seed = 622424;
+    random_seed = 622424;
     for (unsigned i = 0; i < 20000; i++) any_a(lent, seen), any_b(lent, seen), any_c(lent, seen);
     for (unsigned i = 0; i < 4000; i++) any_sheet(lent, seen);
 }

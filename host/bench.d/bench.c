@@ -7,6 +7,7 @@
  *   dumps there. Then every single call, a line 'single TAB chip TAB who TAB read or look TAB select or place' each.
  * log LINES: a port log of mixed lines, without looks. looks LINES: the same, every other line a look.
  * program COMMAND..: the best time of several runs of it, standard input given anew each time, a line 'ns TAB N'. */
+#include "random.h"
 #include "works.h"
 
 #include <fcntl.h>
@@ -61,18 +62,17 @@ static void fill(void) {
     for (unsigned i = 0; i < sizeof lent.colours; i++) lent.colours[i] = (uint8_t)(7 * i & 15);
     for (unsigned i = 0; i < sizeof lent.overlays; i++) lent.overlays[i] = (uint8_t)(5 * i & 15);
     for (unsigned i = 0; i < sizeof lent.map; i++) lent.map[i] = (uint8_t)(i * 2654435761u >> 13);
-    for (unsigned i = 0; i < 3072; i++) lent.table[i] = (uint16_t)(i * 40503u);
+    for (unsigned i = 0; i < ZK_C_TABLE; i++) lent.table[i] = (uint16_t)(i * 40503u);
     for (unsigned i = 0; i < ZK_B_PLACES; i++) lent.entries[i] = zk_b_entry((uint16_t)(97 * i), (uint8_t)i, 1, 2);
     fill_sheets();
 }
 
-static uint64_t checksum(void (*run)(struct lent *, struct seen *)) {
+/* the number of all that a run answers and leaves in what it was lent */
+static uint64_t all_of(void (*run)(struct lent *, struct seen *)) {
     struct seen seen = {0, 0, 1};
-    const uint8_t *bytes = (const uint8_t *)&lent;
     fill();
     run(&lent, &seen);
-    for (size_t i = 0; i < sizeof lent; i++) seen.number = (seen.number ^ bytes[i]) * 0x100000001b3u;
-    return seen.number;
+    return checksum(seen.number, &lent, sizeof lent);
 }
 
 /* a single call's answer, of the library and of plain C */
@@ -90,11 +90,11 @@ static int check(void) {
     for (unsigned w = 0; w < WORKS; w++)
         for (unsigned k = 1; k < 3; k++) {
             if (k == 2 && !bare_works[w].bare) continue;
-            if (checksum(zk_works[w].run) == checksum(sides[k].works[w].run)) continue;
+            if (all_of(zk_works[w].run) == all_of(sides[k].works[w].run)) continue;
             fprintf(stderr, "bench: %s: the library and %s answer differently\n", zk_works[w].name, sides[k].who);
             differs = 1;
         }
-    if (checksum(zk_any) != checksum(plain_any)) {
+    if (all_of(zk_any) != all_of(plain_any)) {
         fprintf(stderr, "bench: on any input the library and plain answer differently\n");
         differs = 1;
     }
@@ -158,15 +158,7 @@ static void counts(void) {
     singles(count_single);
 }
 
-/* ---- the log: random numbers by splitmix64, always the same */
-static uint64_t below(uint64_t n) {
-    static uint64_t seed = 640;
-    uint64_t z = (seed += 0x9e3779b97f4a7c15u);
-    z = (z ^ (z >> 30)) * 0xbf58476d1ce4e5b9u;
-    z = (z ^ (z >> 27)) * 0x94d049bb133111ebu;
-    return (z ^ (z >> 31)) % n;
-}
-
+/* ---- the log, always the same */
 static void line_a(void) {
     uint64_t kind = below(100);
     if (kind < 8) printf("w0=%02x\n", (unsigned)below(256));
@@ -209,6 +201,7 @@ static void look_line(unsigned chip, unsigned long n) {
 static void log_lines(unsigned long lines, int looks) {
     static const char *const names[3] = {"153108", "622424", "640"};
     unsigned chip = 0;
+    random_seed = 640;
     for (unsigned long i = 0; i < lines; i++) {
         if (looks && i % 2 == 1) look_line(chip, i / 2);
         else if (below(50) == 0) printf("chip=%s\n", names[chip = (unsigned)below(3)]);

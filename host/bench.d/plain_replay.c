@@ -9,7 +9,7 @@ enum { LONGEST = 15 }; /* no line form has more bytes */
 
 static uint8_t colours[ZK_A_COLOURS], overlays[ZK_A_OVERLAYS], map[ZK_B_MAP];
 static uint64_t queue[ZK_B_PLACES];
-static uint16_t table[3072];
+static uint16_t table[ZK_C_TABLE];
 static zk_a_state a;
 static zk_b_state b = {{0, 0, 0, 0}, {3, 0}, {3, 5}, {0}};
 static zk_c_state c;
@@ -81,7 +81,7 @@ static void write_line(uint8_t select, uint8_t byte) {
         zk_b_answer r = NAME(b_write)(b, select, byte, queue, ZK_B_PLACES, map, sizeof map);
         b = r.state, refusal = r.refusal, count = r.count;
     } else {
-        zk_c_answer r = NAME(c_write)(c, select, byte, table, 3072);
+        zk_c_answer r = NAME(c_write)(c, select, byte, table, ZK_C_TABLE);
         c = r.state, refusal = r.refusal;
     }
     if (refusal != 0) refused(refusal);
@@ -98,7 +98,7 @@ static void read_line(uint8_t select) {
         zk_b_answer r = NAME(b_read)(b, select, queue, ZK_B_PLACES, map, sizeof map);
         b = r.state, refusal = r.refusal, v = r.value;
     } else {
-        zk_c_answer r = NAME(c_read)(c, select, table, 3072);
+        zk_c_answer r = NAME(c_read)(c, select, table, ZK_C_TABLE);
         c = r.state, refusal = r.refusal, v = r.value;
     }
     if (refusal != 0) refused(refusal);
@@ -108,7 +108,7 @@ static void read_line(uint8_t select) {
 static void look_line(uint32_t place) {
     zk_looked r = chosen == 0   ? NAME(a_look)(a, place, colours, sizeof colours, overlays, sizeof overlays)
                   : chosen == 1 ? NAME(b_look)(b, place, queue, ZK_B_PLACES, map, sizeof map)
-                                : NAME(c_look)(c, place, table, 3072);
+                                : NAME(c_look)(c, place, table, ZK_C_TABLE);
     if (r.refusal != 0) refused(r.refusal);
     else SAY_HEX("look=", r.value, 4);
 }
@@ -133,8 +133,8 @@ static void pixel_a(uint32_t enable, uint32_t number, uint32_t byte) {
         refused(ZK_OUT_OF_RANGE);
         return;
     }
-    p = NAME(a_pixel)(a, colours, sizeof colours, overlays, sizeof overlays, (uint8_t)enable, (uint8_t)number,
-                      (uint8_t)byte);
+    p = NAME(a_pixel)(a, (uint8_t)enable, (uint8_t)number, (uint8_t)byte, colours, sizeof colours, overlays,
+                      sizeof overlays);
     colour(p.red, p.green, p.blue);
 }
 

@@ -3,44 +3,35 @@
 
 #include <string.h>
 
-#define JOIN_(a, b) a##_##b
-#define JOIN(a, b) JOIN_(a, b)
-#define CALL(name) JOIN(PREFIX, name)
-
-static void see(struct seen *seen, const void *answer, size_t n, unsigned refusal) {
-    const uint8_t *bytes = answer;
+/* an answer: the call is counted; of its numbers the refusal alone, or all where that is asked for */
+#define SEE(row_of, answer)                                             \
+    do {                                                                \
+        seen->calls++;                                                  \
+        seen->number += (answer).refusal;                               \
+        if (seen->all) {                                                \
+            struct flat row = row_of(answer);                           \
+            seen->number = checksum(seen->number, &row, sizeof row);    \
+        }                                                               \
+    } while (0)
+static void see_look(struct seen *seen, zk_looked l) { SEE(flat_look, l); }
+static void see_number(struct seen *seen, uint64_t answer) {
     seen->calls++;
-    seen->number += refusal;
-    if (seen->all)
-        for (size_t i = 0; i < n; i++) seen->number = (seen->number ^ bytes[i]) * 0x100000001b3u;
+    seen->number += zk_refusal(answer);
+    if (seen->all) seen->number = checksum(seen->number, &answer, sizeof answer);
 }
-static void see_b(struct seen *seen, const zk_b_answer *a) {
-    if (seen->all) {
-        struct flat_b flat = flat_b(*a);
-        see(seen, &flat, sizeof flat, a->refusal);
-    } else {
-        see(seen, a, sizeof *a, a->refusal);
-    }
-}
-static void see_look(struct seen *seen, zk_looked l) {
-    struct flat_look flat = flat_look(l);
-    see(seen, &flat, sizeof flat, l.refusal);
-}
-#define SEE(a) see(seen, &(a), sizeof(a), (a).refusal)
-#define SEE_B(a) see_b(seen, &(a))
 #define TABLES lent->colours, sizeof lent->colours, lent->overlays, sizeof lent->overlays
 #define QUEUE lent->queue, ZK_B_PLACES
 #define MAP lent->map, sizeof lent->map
-#define TABLE lent->table, 3072
+#define TABLE lent->table, ZK_C_TABLE
 
 /* ---- chip A */
 static void write_a(struct lent *lent, struct seen *seen, uint8_t select, unsigned bytes) {
     zk_a_state s = {0};
     zk_a_answer a = CALL(a_write)(s, 0, 0, TABLES);
-    SEE(a);
+    SEE(flat_a, a);
     for (unsigned i = 0; i < bytes; i++) {
         a = CALL(a_write)(a.state, select, (uint8_t)(7 * i), TABLES);
-        SEE(a);
+        SEE(flat_a, a);
     }
 }
 static void a_write_colours(struct lent *lent, struct seen *seen) { write_a(lent, seen, 1, 768); }
@@ -49,10 +40,10 @@ static void a_write_overlays(struct lent *lent, struct seen *seen) { write_a(len
 static void read_a(struct lent *lent, struct seen *seen, uint8_t select, unsigned bytes) {
     zk_a_state s = {0};
     zk_a_answer a = CALL(a_read)(s, 0, TABLES);
-    SEE(a);
+    SEE(flat_a, a);
     for (unsigned i = 0; i < bytes; i++) {
         a = CALL(a_read)(a.state, select, TABLES);
-        SEE(a);
+        SEE(flat_a, a);
     }
 }
 static void a_read_colours(struct lent *lent, struct seen *seen) { read_a(lent, seen, 1, 768); }
@@ -62,9 +53,9 @@ static void a_registers(struct lent *lent, struct seen *seen) {
     zk_a_answer a = {0};
     for (uint8_t select = 4; select < 8; select++) {
         a = CALL(a_write)(a.state, select, 0xa5, TABLES);
-        SEE(a);
+        SEE(flat_a, a);
         a = CALL(a_read)(a.state, select, TABLES);
-        SEE(a);
+        SEE(flat_a, a);
     }
 }
 
@@ -75,7 +66,7 @@ static void a_read_registers(struct lent *lent, struct seen *seen) {
     zk_a_answer a = {0, 0, look_a};
     for (unsigned i = 0; i < 160; i++) {
         a = CALL(a_read)(a.state, selects[i % 5], TABLES);
-        SEE(a);
+        SEE(flat_a, a);
     }
 }
 
@@ -94,15 +85,15 @@ static void a_tick(struct lent *lent, struct seen *seen) {
         zk_a_clock_answer a;
         a.refusal = CALL(a_tick)(&k);
         a.clock = k;
-        SEE(a);
+        SEE(flat_clock, a);
     }
 }
 
 static void pixel_a(struct lent *lent, struct seen *seen, uint8_t enable, uint8_t control) {
     zk_a_state s = {0, 0, 0, 0, 0x80, 0x7e, control, {0x31, 9}};
     for (unsigned i = 0; i < 256; i++) {
-        zk_a_shown a = CALL(a_pixel)(s, TABLES, enable, i & 3, (uint8_t)i);
-        SEE(a);
+        zk_a_shown a = CALL(a_pixel)(s, enable, i & 3, (uint8_t)i, TABLES);
+        SEE(flat_shown_a, a);
     }
 }
 static void a_pixel_colour(struct lent *lent, struct seen *seen) { pixel_a(lent, seen, 0, 0x08); }
@@ -122,7 +113,7 @@ static void write_b(struct lent *lent, struct seen *seen, unsigned waiting) {
     zk_b_answer a = {0, 0, 0, with_waiting(lent, waiting)};
     for (unsigned i = 0; i < 192; i++) {
         a = CALL(b_write)(a.state, 2, (uint8_t)i, QUEUE, MAP);
-        SEE_B(a);
+        SEE(flat_b, a);
     }
 }
 static void b_write_filling(struct lent *lent, struct seen *seen) { write_b(lent, seen, 0); }
@@ -132,7 +123,7 @@ static void b_write_address(struct lent *lent, struct seen *seen) {
     zk_b_answer a = {0, 0, 0, with_waiting(lent, 0)};
     for (unsigned i = 0; i < 192; i++) {
         a = CALL(b_write)(a.state, i & 1, (uint8_t)i, QUEUE, MAP);
-        SEE_B(a);
+        SEE(flat_b, a);
     }
 }
 
@@ -140,7 +131,7 @@ static void blank_b(struct lent *lent, struct seen *seen, unsigned waiting, uint
     zk_b_answer a = {0, 0, 0, with_waiting(lent, waiting)};
     for (unsigned i = 0; i < calls; i++) {
         a = CALL(b_blank)(a.state, slots, QUEUE, MAP);
-        SEE_B(a);
+        SEE(flat_b, a);
     }
 }
 static void b_blank_all(struct lent *lent, struct seen *seen) { blank_b(lent, seen, 64, 64, 1); }
@@ -152,7 +143,7 @@ static void b_read_map(struct lent *lent, struct seen *seen) {
     a.state.control.readmode = 1;
     for (unsigned i = 0; i < 768; i++) {
         a = CALL(b_read)(a.state, 2, QUEUE, MAP);
-        SEE_B(a);
+        SEE(flat_b, a);
     }
 }
 
@@ -160,7 +151,7 @@ static void b_read_status(struct lent *lent, struct seen *seen) {
     zk_b_answer a = {0, 0, 0, with_waiting(lent, 33)};
     for (unsigned i = 0; i < 192; i++) {
         a = CALL(b_read)(a.state, 4, QUEUE, MAP);
-        SEE_B(a);
+        SEE(flat_b, a);
     }
 }
 
@@ -169,7 +160,7 @@ static void b_read_registers(struct lent *lent, struct seen *seen) {
     zk_b_answer a = {0, 0, 0, with_waiting(lent, 0)};
     for (unsigned i = 0; i < 192; i++) {
         a = CALL(b_read)(a.state, selects[i % 4], QUEUE, MAP);
-        SEE_B(a);
+        SEE(flat_b, a);
     }
 }
 
@@ -188,7 +179,7 @@ static void pixel_b(struct lent *lent, struct seen *seen, unsigned waiting, uint
     zk_b_state s = with_waiting(lent, waiting);
     for (uint32_t i = 0; i < 256; i++) {
         zk_b_shown a = CALL(b_pixel)(s, mode, 0x010305 * i & 0xffffff, QUEUE, MAP);
-        SEE(a);
+        SEE(flat_shown_b, a);
     }
 }
 static void b_pixel_0(struct lent *lent, struct seen *seen) { pixel_b(lent, seen, 0, 0); }
@@ -201,7 +192,7 @@ static void b_sync(struct lent *lent, struct seen *seen) {
     zk_b_state s = with_waiting(lent, 0);
     for (uint8_t i = 0; i < 16; i++) {
         zk_b_answer a = CALL(b_sync)(s, i, QUEUE);
-        SEE_B(a);
+        SEE(flat_b, a);
     }
 }
 
@@ -209,25 +200,25 @@ static void b_sync(struct lent *lent, struct seen *seen) {
 static zk_c_answer index_c(struct lent *lent, struct seen *seen, uint8_t high) {
     zk_c_state s = {0};
     zk_c_answer a = CALL(c_write)(s, 4, 0, TABLE);
-    SEE(a);
+    SEE(flat_c, a);
     a = CALL(c_write)(a.state, 5, high, TABLE);
-    SEE(a);
+    SEE(flat_c, a);
     return a;
 }
 
 static void c_write_table(struct lent *lent, struct seen *seen) {
     zk_c_answer a = index_c(lent, seen, 0x40);
-    for (unsigned i = 0; i < 3072; i++) {
+    for (unsigned i = 0; i < ZK_C_TABLE; i++) {
         a = CALL(c_write)(a.state, 6, (uint8_t)(5 * i), TABLE);
-        SEE(a);
+        SEE(flat_c, a);
     }
 }
 
 static void c_read_table(struct lent *lent, struct seen *seen) {
     zk_c_answer a = index_c(lent, seen, 0x80);
-    for (unsigned i = 0; i < 3072; i++) {
+    for (unsigned i = 0; i < ZK_C_TABLE; i++) {
         a = CALL(c_read)(a.state, 6, TABLE);
-        SEE(a);
+        SEE(flat_c, a);
     }
 }
 
@@ -237,7 +228,7 @@ static void c_read_index(struct lent *lent, struct seen *seen) {
     zk_c_answer a = {0, 0, look_c};
     for (unsigned i = 0; i < 192; i++) {
         a = CALL(c_read)(a.state, 4 + i % 2, TABLE);
-        SEE(a);
+        SEE(flat_c, a);
     }
 }
 
@@ -245,10 +236,8 @@ static void c_look_state(struct lent *lent, struct seen *seen) {
     for (uint32_t i = 0; i < 160; i++) see_look(seen, CALL(c_look)(look_c, i % 8, TABLE));
 }
 static void c_look_table(struct lent *lent, struct seen *seen) {
-    for (uint32_t i = 0; i < 3072; i++) see_look(seen, CALL(c_look)(look_c, ZK_C_LOOK_TABLE + i, TABLE));
+    for (uint32_t i = 0; i < ZK_C_TABLE; i++) see_look(seen, CALL(c_look)(look_c, ZK_C_LOOK_TABLE + i, TABLE));
 }
-
-static void see_number(struct seen *seen, uint64_t answer) { see(seen, &answer, sizeof answer, zk_refusal(answer)); }
 
 static void expand_8(struct lent *lent, struct seen *seen) {
     (void)lent;
@@ -290,17 +279,17 @@ static void single(struct lent *lent, struct seen *seen, struct single call) {
         see_look(seen, CALL(a_look)(look_a, call.at, TABLES));
     } else if (call.chip == 'a') {
         zk_a_answer a = CALL(a_read)(look_a, (uint8_t)call.at, TABLES);
-        SEE(a);
+        SEE(flat_a, a);
     } else if (call.chip == 'b' && call.look) {
         see_look(seen, CALL(b_look)(b, call.at, QUEUE, MAP));
     } else if (call.chip == 'b') {
         zk_b_answer a = CALL(b_read)(b, (uint8_t)call.at, QUEUE, MAP);
-        SEE_B(a);
+        SEE(flat_b, a);
     } else if (call.look) {
         see_look(seen, CALL(c_look)(c, call.at, TABLE));
     } else {
         zk_c_answer a = CALL(c_read)(c, (uint8_t)call.at, TABLE);
-        SEE(a);
+        SEE(flat_c, a);
     }
 }
 run_single *const CALL(single) = single;

@@ -3,44 +3,37 @@
 #ifndef WORKS_H
 #define WORKS_H
 
+#include "flat.h"
 #include "plain.h"
 
 /* What the calls are lent; the sheets, and the entries that may wait, made beforehand. */
 struct lent {
     uint8_t colours[ZK_A_COLOURS], overlays[ZK_A_OVERLAYS], map[ZK_B_MAP];
     uint64_t queue[ZK_B_PLACES], entries[ZK_B_PLACES];
-    uint16_t table[3072];
+    uint16_t table[ZK_C_TABLE];
     uint8_t whole[ZK_SHEET_BYTES + 1], damaged[ZK_SHEET_BYTES + 1]; /* sprintf puts a 0 behind */
     uint8_t calls[ZK_CALLS_BYTES], sheet[ZK_SHEET_BYTES];
 };
 
-/* What a work has done: how many calls, and a number from their answers: of every byte where all is asked for, else of
- * the refusals alone, so that little but the calls is timed. */
+/* What a work has done: how many calls, and a number from their answers: from all that they tell, where all is asked
+ * for, else from the refusals alone, so that little but the calls is timed. */
 struct seen {
     unsigned long calls;
     uint64_t number;
     int all;
 };
 
-/* The numbers of a chip B answer, without the bytes between the parts of its state, which mean nothing. */
-struct flat_b {
-    uint16_t numbers[12];
-};
-static inline struct flat_b flat_b(zk_b_answer a) {
-    zk_b_state s = a.state;
-    struct flat_b flat = {{a.refusal, a.value, a.count, s.port.address, s.port.counter, s.port.red, s.port.green,
-                           s.control.command, s.control.readmode, s.ident.revision, s.ident.board, s.fifo.waiting}};
-    return flat;
+/* n bytes more of a number that stands for all that was seen */
+static inline uint64_t checksum(uint64_t number, const void *seen, size_t n) {
+    const uint8_t *bytes = seen;
+    for (size_t i = 0; i < n; i++) number = (number ^ bytes[i]) * 0x100000001b3u;
+    return number;
 }
 
-/* The numbers of a look's answer, without the byte between them. */
-struct flat_look {
-    uint16_t numbers[2];
-};
-static inline struct flat_look flat_look(zk_looked l) {
-    struct flat_look flat = {{l.refusal, l.value}};
-    return flat;
-}
+/* a call of the prefix that a source is compiled with */
+#define JOIN_(a, b) a##_##b
+#define JOIN(a, b) JOIN_(a, b)
+#define CALL(name) JOIN(PREFIX, name)
 
 struct work {
     const char *name;

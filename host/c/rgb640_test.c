@@ -1,193 +1,84 @@
-/* Chip C's calls against plain C written from source document 001 (9.1, 9.3, 9.4.1, 10.15, Tables 23 to 26) and
- * document 01, "Chip C". Every field of every answer and every number of the table is compared after each call. The
- * look, from document 02, P5: every place, both sides of each block, numbers as lent. */
+/* Chip C: each call of the library beside the same call of plain C (host/plain), which is written from document 01,
+ * "Chip C", and request P5. Every field of every answer and every number of the table is compared after each call.
+ *
+ * By hand, apart from that model: accesses in a row and the order of the refusals, from data sheet 001 (9.1, 9.3,
+ * 9.4.1, 10.15, Tables 23 to 26) and document 01; that what is written reads back; and from P5 every place of a look,
+ * numbers as lent. */
 #include "check.h"
-#include "zikombaru.h"
 
-enum { NUMBERS = 3072, SLACK = 4 };
-enum { WRITE_SPACE = 0x4000, READ_SPACE = 0x8000, ENTRIES = 0x400, UPDATE_CONTROL = 0x000E };
-enum { WRAI = 1 << 1, RDAI = 1 << 2 };
+enum { SLACK = 4, WRITE_SPACE = 0x4000, READ_SPACE = 0x8000 };
 
-/* ---- the documents' chip */
-struct chip {
-    zk_c_state s;
-    uint16_t table[NUMBERS + SLACK];
-    size_t length;
-    unsigned refusal, value;
-};
+static const char *const names[] = {"index",       "place",         "red",          "green",  "fetched red",
+                                    "fetched green", "fetched blue", "update", NULL};
+static struct call writes = {"write, length %lu, to port %lx: %lx", names, "01349", {0}},
+                   reads = {"read, length %lu, of port %lx", names, "01349", {0}},
+                   looks = {"look, length %lu, at %lx", names, "0139", {0}}, resets = {"reset", names, "0", {0}};
 
-static int in_space(unsigned index, unsigned first) { return first <= index && index < first + ENTRIES; }
+/* ---- a call of the library and of plain C, compared; chip is the state, before it and after */
 
-static int in_ranges(const zk_c_state *s) {
-    return s->place <= 2 && s->red <= 1023 && s->green <= 1023 && s->fetched.red <= 1023 && s->fetched.green <= 1023
-           && s->fetched.blue <= 1023;
+static zk_c_state chip;
+static size_t length;
+static uint16_t *table, plain_table[ZK_C_TABLE + SLACK];
+
+/* from here on a table of this length is lent, of any numbers or of ten bits */
+static void lend(size_t n, int any_number) {
+    static uint16_t *tables[ZK_C_TABLE + SLACK + 1]; /* a guarded buffer of each length that is used */
+    if (tables[n] == NULL) tables[n] = check_guarded(n * sizeof *table);
+    length = n;
+    table = tables[n];
+    for (size_t i = 0; i < n; i++) table[i] = plain_table[i] = (uint16_t)below(any_number ? 65536 : 1024);
 }
 
-/* the refusal, in the order 1, 9, 3, 4; own is the first index of the direction's space */
-static unsigned refusal(const struct chip *c, unsigned port, unsigned own) {
-    if (c->length != NUMBERS) return ZK_LENT_LENGTH;
-    if (!in_ranges(&c->s)) return ZK_OUT_OF_RANGE;
-    if (port < 4 || port > 6) return ZK_NO_ACCESS;
-    if (port == 6 && c->s.index != UPDATE_CONTROL && !in_space(c->s.index, own)) return ZK_NO_INDEX;
-    return 0;
-}
-
-static void fetch(struct chip *c) {
-    const uint16_t *entry = c->table + 3 * (c->s.index & 0x3ff);
-    if (!in_space(c->s.index, READ_SPACE)) return;
-    c->s.fetched.red = entry[0] & 0x3ff;
-    c->s.fetched.green = entry[1] & 0x3ff;
-    c->s.fetched.blue = entry[2] & 0x3ff;
-}
-
-/* Table 26: red, green, blue; after the third the offset steps where the bit of 0x000E is 0 */
-static void next_place(struct chip *c, unsigned bit) {
-    if (++c->s.place < 3) return;
-    c->s.place = 0;
-    if (c->s.update & bit) return;
-    c->s.index = (uint16_t)((c->s.index & 0xfc00) | ((c->s.index + 1) & 0x03ff));
-    fetch(c);
-}
-
-/* Tables 23 to 25, "8 Bit": the byte on top, its two top bits below */
-static uint16_t linear(unsigned byte) { return (uint16_t)(byte << 2 | byte >> 6); }
-
-static void palette_write(struct chip *c, unsigned byte) {
-    uint16_t *entry = c->table + 3 * (c->s.index & 0x3ff);
-    if (c->s.place == 0) c->s.red = linear(byte);
-    if (c->s.place == 1) c->s.green = linear(byte);
-    if (c->s.place == 2) {
-        entry[0] = c->s.red;
-        entry[1] = c->s.green;
-        entry[2] = linear(byte);
-    }
-    next_place(c, WRAI);
-}
-
-static void chip_write(struct chip *c, unsigned port, unsigned byte) {
-    c->value = 0;
-    c->refusal = refusal(c, port, WRITE_SPACE);
-    if (c->refusal != 0) return;
-    if (port == 4) {
-        c->s.index = (uint16_t)((c->s.index & 0xff00) | byte);
-    } else if (port == 5) {
-        c->s.index = (uint16_t)((c->s.index & 0x00ff) | byte << 8);
-        c->s.place = 0;
-        fetch(c);
-    } else if (c->s.index == UPDATE_CONTROL) {
-        c->s.update = (uint8_t)byte;
-    } else {
-        palette_write(c, byte);
-    }
-}
-
-static void chip_read(struct chip *c, unsigned port) {
-    const uint16_t component[3] = {c->s.fetched.red, c->s.fetched.green, c->s.fetched.blue};
-    c->value = 0;
-    c->refusal = refusal(c, port, READ_SPACE);
-    if (c->refusal != 0) return;
-    if (port == 4) {
-        c->value = c->s.index & 0xff;
-    } else if (port == 5) {
-        c->value = c->s.index >> 8;
-    } else if (c->s.index == UPDATE_CONTROL) {
-        c->value = c->s.update;
-    } else {
-        c->value = component[c->s.place] >> 2;
-        next_place(c, RDAI);
-    }
-}
-
-/* 1 and 9 as a read of port 4 has them */
-static void chip_look(struct chip *c, uint32_t place) {
-    const zk_c_state *s = &c->s;
-    const unsigned numbers[8] = {s->index,       s->place,         s->red,          s->green,
-                                 s->fetched.red, s->fetched.green, s->fetched.blue, s->update};
-    int in_table = place >= 0x10000 && place < 0x10000 + NUMBERS;
-    c->value = 0;
-    c->refusal = refusal(c, 4, 0);
-    if (c->refusal == 0 && place >= 8 && !in_table) c->refusal = ZK_NO_ACCESS;
-    if (c->refusal == 0) c->value = in_table ? c->table[place - 0x10000] : numbers[place];
-}
-
-/* ---- a call on both, compared */
-static struct chip model;
-static uint16_t *lent[NUMBERS + SLACK + 1]; /* a guarded buffer of each length that is used */
-static unsigned long met[3][10];            /* how often each refusal was met: by writes, by reads, by looks */
-
-static uint16_t *buffer(size_t length) {
-    if (lent[length] == NULL) lent[length] = check_guarded(length * sizeof(uint16_t));
-    return lent[length];
-}
-
-static void lend(size_t length, int any_number) {
-    model.length = length;
-    for (size_t i = 0; i < length; i++) model.table[i] = (uint16_t)(check_random() & (any_number ? 0xffff : 0x3ff));
-    memcpy(buffer(length), model.table, length * sizeof(uint16_t));
-}
-
-static int same_state(zk_c_state a, zk_c_state b) {
-    return a.index == b.index && a.place == b.place && a.red == b.red && a.green == b.green && a.update == b.update
-           && a.fetched.red == b.fetched.red && a.fetched.green == b.fetched.green && a.fetched.blue == b.fetched.blue;
-}
-
-static void compare(zk_c_answer a, const char *call, zk_c_state given, unsigned port, unsigned byte) {
-    int table = memcmp(buffer(model.length), model.table, model.length * sizeof(uint16_t));
-    CHECK(a.refusal == model.refusal && a.value == model.value && same_state(a.state, model.s) && table == 0,
-          "%s %u byte %02x at index %04x place %u update %02x, %lu numbers: refusal %u for %u, value %02x for %02x, "
-          "index %04x for %04x, place %u for %u, table %s",
-          call, port, byte, given.index, given.place, given.update, (unsigned long)model.length, a.refusal,
-          model.refusal, a.value, model.value, a.state.index, model.s.index, a.state.place, model.s.place,
-          table ? "differs" : "same");
+static void compare(struct call *call, unsigned long x, unsigned long y, struct flat got, struct flat want) {
+    const unsigned long numbers[5] = {length, x, y, 0, 0};
+    zk_c_answer given = {0, 0, chip};
+    check_same(call, numbers, flat_c(given), got, want);
+    check_lent(call, "table", table, plain_table, length * sizeof *table);
 }
 
 static void do_write(unsigned port, unsigned byte) {
-    zk_c_state given = model.s;
-    chip_write(&model, port, byte);
-    compare(zk_c_write(given, (uint8_t)port, (uint8_t)byte, buffer(model.length), model.length), "write", given, port,
-            byte);
-    met[0][model.refusal]++;
+    zk_c_answer got = zk_c_write(chip, (uint8_t)port, (uint8_t)byte, table, length);
+    compare(&writes, port, byte, flat_c(got),
+            flat_c(plain_c_write(chip, (uint8_t)port, (uint8_t)byte, plain_table, length)));
+    chip = got.state;
 }
 
 static void do_read(unsigned port) {
-    zk_c_state given = model.s;
-    chip_read(&model, port);
-    compare(zk_c_read(given, (uint8_t)port, buffer(model.length), model.length), "read", given, port, 0);
-    met[1][model.refusal]++;
+    zk_c_answer got = zk_c_read(chip, (uint8_t)port, table, length);
+    compare(&reads, port, 0, flat_c(got), flat_c(plain_c_read(chip, (uint8_t)port, plain_table, length)));
+    chip = got.state;
 }
 
-/* a look, and all that it must leave as it was */
 static void do_look(uint32_t place) {
-    zk_c_state given = model.s;
-    zk_looked l = zk_c_look(given, place, buffer(model.length), model.length);
-    chip_look(&model, place);
-    CHECK(l.refusal == model.refusal && l.value == model.value,
-          "look %lx at index %04x, %lu numbers: refusal %u for %u, value %04x for %04x", (unsigned long)place,
-          given.index, (unsigned long)model.length, l.refusal, model.refusal, l.value, model.value);
-    CHECK(same_state(given, model.s)
-              && memcmp(buffer(model.length), model.table, model.length * sizeof(uint16_t)) == 0,
-          "look %lx: another state or table", (unsigned long)place);
-    met[2][model.refusal]++;
+    compare(&looks, place, 0, flat_look(zk_c_look(chip, place, table, length)),
+            flat_look(plain_c_look(chip, place, plain_table, length)));
 }
 
-/* ---- states */
-static uint16_t component(int good) { return (uint16_t)(good ? check_below(1024) : check_random() & 0xffff); }
+static void do_reset(void) {
+    zk_c_answer got = zk_c_reset(chip);
+    compare(&resets, 0, 0, flat_c(got), flat_c(plain_c_reset(chip)));
+    chip = got.state;
+}
+
+/* ---- inputs */
+
+static uint16_t component(int good) { return (uint16_t)(good ? below(1024) : random_bits() & 0xffff); }
 
 /* an index near an edge of a space, or any */
 static uint16_t some_index(void) {
-    static const uint16_t edges[] = {0x000E, 0x4000, 0x4400, 0x8000, 0x8400, 0x43ff, 0x83ff, 0x0000};
-    uint32_t kind = check_below(8);
-    if (kind == 0) return (uint16_t)check_random();
-    if (kind <= 2) return (uint16_t)(edges[check_below(8)] + check_below(3) - 1);
-    if (kind <= 5) return (uint16_t)(WRITE_SPACE + (kind % 2) * (READ_SPACE - WRITE_SPACE) + check_below(ENTRIES));
-    return UPDATE_CONTROL;
+    static const uint16_t edges[] = {0x000e, 0x4000, 0x4400, 0x8000, 0x8400, 0x43ff, 0x83ff, 0x0000};
+    uint32_t kind = below(8);
+    if (kind == 0) return (uint16_t)random_bits();
+    if (kind <= 2) return (uint16_t)(edges[below(8)] + below(3) - 1);
+    if (kind <= 5) return (uint16_t)(WRITE_SPACE + (kind % 2) * (READ_SPACE - WRITE_SPACE) + below(ZK_C_ENTRIES));
+    return 0x000e;
 }
 
 static zk_c_state some_state(int good) {
     zk_c_state s;
     s.index = some_index();
-    s.place = (uint8_t)(good ? check_below(3) : check_below(6));
-    s.update = (uint8_t)check_random();
+    s.place = (uint8_t)(good ? below(3) : below(6));
+    s.update = (uint8_t)random_bits();
     s.red = component(good);
     s.green = component(good);
     s.fetched.red = component(good);
@@ -196,37 +87,45 @@ static zk_c_state some_state(int good) {
     return s;
 }
 
-static unsigned some_port(void) { return check_below(8) == 0 ? check_below(256) : 4 + check_below(3); }
-
-/* a place near the start or the end of a block, in it, or any number of 32 bits */
-static uint32_t some_place(void) {
-    static const uint32_t edges[] = {7, 8, 0xffff, 0x10000, 0x10bff, 0x10c00, UINT32_MAX};
-    uint32_t kind = check_below(8);
-    if (kind == 0) return (uint32_t)check_random();
-    if (kind == 1) return edges[check_below(7)];
-    return kind <= 4 ? check_below(8) : 0x10000 + check_below(NUMBERS);
+/* a good state with one field out of its range, each in turn; the last stays good */
+enum { SPOILT = 6 };
+static zk_c_state spoilt(int field, uint16_t wrong) {
+    zk_c_state s = some_state(1);
+    switch (field) {
+    case 0: s.place = (uint8_t)(wrong % 253 + 3); break;
+    case 1: s.red = wrong; break;
+    case 2: s.green = wrong; break;
+    case 3: s.fetched.red = wrong; break;
+    case 4: s.fetched.green = wrong; break;
+    case 5: s.fetched.blue = wrong; break;
+    }
+    return s;
 }
 
-/* ---- tests */
+static unsigned some_port(void) { return below(8) == 0 ? below(256) : 4 + below(3); }
+static uint32_t any_place(void) { return below(2) ? some_place(0, 8) : some_place(ZK_C_LOOK_TABLE, ZK_C_TABLE); }
+
+/* ---- every call beside plain C */
+
 static void every_index_and_place(void) {
-    lend(NUMBERS, 1);
+    lend(ZK_C_TABLE, 1);
     for (unsigned index = 0; index < 0x10000; index++)
         for (unsigned place = 0; place < 4; place++) {
             zk_c_state s = some_state(1);
             s.index = (uint16_t)index;
             s.place = (uint8_t)place;
-            model.s = s;
-            do_write(6, (unsigned)check_below(256));
-            model.s = s;
+            chip = s;
+            do_write(6, below(256));
+            chip = s;
             do_read(6);
         }
 }
 
 static void every_port_and_byte(void) {
-    lend(NUMBERS, 1);
+    lend(ZK_C_TABLE, 1);
     for (unsigned port = 0; port < 256; port++)
         for (unsigned byte = 0; byte < 256; byte++) {
-            model.s = some_state(1);
+            chip = some_state(1);
             do_write(port, byte);
             do_read(port);
         }
@@ -234,57 +133,62 @@ static void every_port_and_byte(void) {
 
 static void one_field_out_of_range(void) {
     static const uint16_t wrong[] = {1024, 1025, 2047, 4096, 32768, 65535};
-    lend(NUMBERS, 1);
-    for (unsigned field = 0; field < 6; field++)
+    lend(ZK_C_TABLE, 1);
+    for (int field = 0; field < SPOILT; field++)
         for (unsigned i = 0; i < 6; i++)
             for (unsigned round = 0; round < 60; round++) {
-                zk_c_state s = some_state(1);
-                if (field == 0) s.place = (uint8_t)(wrong[i] % 253 + 3);
-                if (field == 1) s.red = wrong[i];
-                if (field == 2) s.green = wrong[i];
-                if (field == 3) s.fetched.red = wrong[i];
-                if (field == 4) s.fetched.green = wrong[i];
-                if (field == 5) s.fetched.blue = wrong[i];
-                model.s = s;
-                do_write(some_port(), check_below(256));
-                model.s = s;
+                chip = spoilt(field, wrong[i]);
+                do_write(some_port(), below(256));
                 do_read(some_port());
-                do_look(some_place());
+                do_look(any_place());
             }
 }
 
 static void other_lengths(void) {
     static const size_t lengths[] = {0, 1, 2, 3, 1024, 3069, 3070, 3071, 3073, 3074, 3075, 3076};
-    for (unsigned i = 0; i < sizeof lengths / sizeof *lengths; i++) {
+    for (unsigned i = 0; i < COUNT(lengths); i++) {
         lend(lengths[i], 1);
         for (unsigned round = 0; round < 500; round++) {
-            model.s = some_state(check_below(2) == 0);
-            do_write(some_port(), check_below(256));
-            model.s = some_state(check_below(2) == 0);
+            chip = some_state(below(2) == 0);
+            do_write(some_port(), below(256));
+            chip = some_state(below(2) == 0);
             do_read(some_port());
-            model.s = some_state(check_below(2) == 0);
-            do_look(some_place());
+            chip = some_state(below(2) == 0);
+            do_look(any_place());
         }
     }
 }
 
 static void runs_of_calls(void) {
     for (unsigned run = 0; run < 300; run++) {
-        lend(NUMBERS, run % 2 == 0);
-        model.s = some_state(1);
+        lend(ZK_C_TABLE, run % 2 == 0);
+        chip = some_state(1);
         for (unsigned step = 0; step < 1000; step++) {
-            uint32_t kind = check_below(16);
-            if (kind == 0) do_write(4, check_below(256));
-            if (kind == 1) do_write(5, check_below(2) == 0 ? 0x40 + check_below(5) : 0x80 + check_below(5));
-            if (kind == 2) do_write(some_port(), check_below(256));
+            uint32_t kind = below(16);
+            int reading = chip.index >= READ_SPACE && chip.index < READ_SPACE + ZK_C_ENTRIES;
+            if (kind == 0) do_write(4, below(256));
+            if (kind == 1) do_write(5, below(2) == 0 ? 0x40 + below(5) : 0x80 + below(5));
+            if (kind == 2) do_write(some_port(), below(256));
             if (kind == 3) do_read(some_port());
-            if (kind == 4) model.s.index = some_index();
-            if (kind > 4 && in_space(model.s.index, READ_SPACE)) do_read(6);
-            if (kind > 4 && !in_space(model.s.index, READ_SPACE)) do_write(6, check_below(256));
-            if (kind < 8) do_look(some_place());
+            if (kind == 4) chip.index = some_index();
+            if (kind > 4 && reading) do_read(6);
+            if (kind > 4 && !reading) do_write(6, below(256));
+            if (kind < 8) do_look(any_place());
         }
     }
 }
+
+/* plain C's, and, by hand, zero */
+static void every_reset(void) {
+    static const struct flat zero;
+    for (unsigned round = 0; round < 100000; round++) {
+        chip = some_state(below(2) == 0);
+        do_reset();
+        CHECK(memcmp(&last, &zero, sizeof zero) == 0, "reset: not zero");
+    }
+}
+
+/* ---- by hand: accesses */
 
 static void point(unsigned index) {
     do_write(4, index & 0xff);
@@ -292,163 +196,206 @@ static void point(unsigned index) {
 }
 
 static void reads_back(void) {
-    lend(NUMBERS, 1);
-    for (unsigned entry = 0; entry < ENTRIES; entry++)
+    lend(ZK_C_TABLE, 1);
+    for (unsigned entry = 0; entry < ZK_C_ENTRIES; entry++)
         for (unsigned round = 0; round < 8; round++) {
             unsigned bytes[3];
-            model.s = some_state(1);
+            chip = some_state(1);
             point(WRITE_SPACE + entry);
-            for (int i = 0; i < 3; i++) do_write(6, bytes[i] = check_below(256));
+            for (int i = 0; i < 3; i++) do_write(6, bytes[i] = below(256));
             point(READ_SPACE + entry);
             for (int i = 0; i < 3; i++) {
                 do_read(6);
-                CHECK(model.refusal == 0 && model.value == bytes[i], "entry %u, component %d: %02x for %02x", entry, i,
-                      model.value, bytes[i]);
+                CHECK(last.told[0] == 0 && last.told[1] == bytes[i], "entry %u, component %d: %02x for %02x", entry, i,
+                      last.told[1], bytes[i]);
             }
         }
 }
 
-/* what a look answers as one number: the value, and above its 16 bits the refusal */
-#define REFUSED(n) ((uint32_t)(n) << 16)
-static uint32_t looked(zk_c_state s, uint32_t place) {
-    zk_looked l = zk_c_look(s, place, buffer(model.length), model.length);
-    return REFUSED(l.refusal) | l.value;
+static struct flat make_step(const struct step *step) {
+    if (step->access == 'w')
+        do_write(step->select, step->byte);
+    else
+        do_read(step->select);
+    return last;
 }
+
+/* the entries that are read, and what the steps leave in the table */
+static const struct entry {
+    unsigned number;
+    uint16_t colour[3];
+} lent[] = {{0, {0xffff, 0x0405, 0x080a}}, {5, {0x0410, 0x0817, 0x0fff}}, {6, {0x0018, 0x001c, 0x0020}},
+            {1023, {0x0100, 0x0200, 0x0300}}},
+  stored[] = {{1023, {1023, 514, 0}}, {6, {4, 8, 252}}, {14, {4, 8, 12}}, {0x305, {0, 0, 0}}};
+
+/* each line: access, port, byte; refusal, value; index, place, red, green */
+static const struct step steps[] = {
+    /* port 5 fetches, port 4 does not; reads of both move nothing; then entry 6 is fetched */
+    {'w', 4, 0x00, {0}, {0x0000}}, {'w', 5, 0x80, {0}, {0x8000}}, {'w', 4, 0x05, {0}, {0x8005}},
+    {'r', 6, 0, {0, 0xff}, {0x8005, 1}}, {'r', 4, 0, {0, 0x05}, {0x8005, 1}}, {'r', 5, 0, {0, 0x80}, {0x8005, 1}},
+    {'r', 6, 0, {0, 0x01}, {0x8005, 2}}, {'r', 6, 0, {0, 0x02}, {0x8006, 0}}, {'r', 6, 0, {0, 0x06}, {0x8006, 1}},
+    /* port 4 keeps the place, port 5 restarts at red */
+    {'w', 4, 0x05, {0}, {0x8005, 1}}, {'w', 5, 0x80, {0}, {0x8005, 0}},
+    /* modulo 1,024, divided by 4; then the next entry, fetched */
+    {'r', 6, 0, {0, 0x04}, {0x8005, 1}}, {'r', 6, 0, {0, 0x05}, {0x8005, 2}}, {'r', 6, 0, {0, 0xff}, {0x8006, 0}},
+    {'r', 6, 0, {0, 0x06}, {0x8006, 1}},
+    /* from the last entry to the first */
+    {'w', 4, 0xff, {0}, {0x80ff, 1}}, {'w', 5, 0x83, {0}, {0x83ff, 0}}, {'r', 6, 0, {0, 0x40}, {0x83ff, 1}},
+    {'r', 6, 0, {0, 0x80}, {0x83ff, 2}}, {'r', 6, 0, {0, 0xc0}, {0x8000, 0}}, {'r', 6, 0, {0, 0xff}, {0x8000, 1}},
+    /* ports that are not there; port 6 against its direction, and past a space */
+    {'w', 3, 0, {3}, {0x8000, 1}}, {'r', 3, 0, {3}, {0x8000, 1}}, {'w', 7, 0, {3}, {0x8000, 1}},
+    {'r', 7, 0, {3}, {0x8000, 1}}, {'w', 6, 0, {4}, {0x8000, 1}}, {'w', 5, 0x84, {0}, {0x8400, 0}},
+    {'r', 6, 0, {4}, {0x8400, 0}}, {'w', 5, 0x40, {0}, {0x4000, 0}}, {'r', 6, 0, {4}, {0x4000, 0}},
+    {'w', 5, 0x44, {0}, {0x4400, 0}}, {'w', 6, 0, {4}, {0x4400, 0}},
+    /* writes: ten bits are latched; a whole colour is stored, and the offset steps modulo 1,024 */
+    {'w', 4, 0xff, {0}, {0x44ff, 0}}, {'w', 5, 0x43, {0}, {0x43ff, 0}}, {'w', 6, 0xff, {0}, {0x43ff, 1, 1023}},
+    {'w', 6, 0x80, {0}, {0x43ff, 2, 1023, 514}}, {'w', 6, 0x00, {0}, {0x4000, 0, 1023, 514}},
+    /* port 5 keeps the latches; blue goes to the index as it then stands */
+    {'w', 6, 0x40, {0}, {0x4000, 1, 257, 514}}, {'w', 5, 0x40, {0}, {0x4000, 0, 257, 514}},
+    {'w', 6, 0x01, {0}, {0x4000, 1, 4, 514}}, {'w', 6, 0x02, {0}, {0x4000, 2, 4, 8}},
+    {'w', 4, 0x06, {0}, {0x4006, 2, 4, 8}}, {'w', 6, 0x3f, {0}, {0x4007, 0, 4, 8}},
+    /* register 0x000E, all eight bits; it moves nothing. Bit 1 stops the step after writes alone */
+    {'w', 6, 0x03, {0}, {0x4007, 1, 12, 8}}, {'w', 4, 0x0e, {0}, {0x400e, 1, 12, 8}},
+    {'w', 5, 0x00, {0}, {0x000e, 0, 12, 8}}, {'r', 6, 0, {0, 0x00}, {0x000e, 0, 12, 8}},
+    {'w', 6, 0xf9, {0}, {0x000e, 0, 12, 8}}, {'r', 6, 0, {0, 0xf9}, {0x000e, 0, 12, 8}},
+    {'w', 6, 0x02, {0}, {0x000e, 0, 12, 8}},
+    {'w', 5, 0x40, {0}, {0x400e, 0, 12, 8}}, {'w', 6, 0x01, {0}, {0x400e, 1, 4, 8}},
+    {'w', 6, 0x02, {0}, {0x400e, 2, 4, 8}}, {'w', 6, 0x03, {0}, {0x400e, 0, 4, 8}},
+    {'w', 4, 0x05, {0}, {0x4005, 0, 4, 8}}, {'w', 5, 0x80, {0}, {0x8005, 0, 4, 8}},
+    {'r', 6, 0, {0, 0x04}, {0x8005, 1, 4, 8}}, {'r', 6, 0, {0, 0x05}, {0x8005, 2, 4, 8}},
+    {'r', 6, 0, {0, 0xff}, {0x8006, 0, 4, 8}},
+    /* bit 2 after reads alone: the fetched entry stays */
+    {'w', 4, 0x0e, {0}, {0x800e, 0, 4, 8}}, {'w', 5, 0x00, {0}, {0x000e, 0, 4, 8}},
+    {'w', 6, 0x04, {0}, {0x000e, 0, 4, 8}}, {'w', 4, 0x05, {0}, {0x0005, 0, 4, 8}},
+    {'w', 5, 0x80, {0}, {0x8005, 0, 4, 8}}, {'r', 6, 0, {0, 0x04}, {0x8005, 1, 4, 8}},
+    {'r', 6, 0, {0, 0x05}, {0x8005, 2, 4, 8}}, {'r', 6, 0, {0, 0xff}, {0x8005, 0, 4, 8}},
+    {'r', 6, 0, {0, 0x04}, {0x8005, 1, 4, 8}}, {'w', 5, 0x43, {0}, {0x4305, 0, 4, 8}},
+    {'w', 6, 0x00, {0}, {0x4305, 1, 0, 8}}, {'w', 6, 0x00, {0}, {0x4305, 2, 0, 0}},
+    {'w', 6, 0x00, {0}, {0x4306, 0, 0, 0}},
+};
+
+static void put_entries(uint16_t *to, const struct entry *entries, size_t n) {
+    for (size_t i = 0; i < n; i++) memcpy(to + 3 * entries[i].number, entries[i].colour, sizeof entries[i].colour);
+}
+
+static void accesses_by_hand(void) {
+    static uint16_t want[ZK_C_TABLE];
+    lend(ZK_C_TABLE, 1);
+    put_entries(table, lent, COUNT(lent));
+    memcpy(plain_table, table, sizeof want), memcpy(want, table, sizeof want);
+    put_entries(want, stored, COUNT(stored));
+    memset(&chip, 0, sizeof chip);
+    check_steps(steps, COUNT(steps), make_step);
+    CHECK(memcmp(table, want, sizeof want) == 0, "the table but for four entries, or one of them");
+    chip.index = 0x000e, chip.place = 2; /* no run of accesses comes here */
+    do_write(6, 0x55), do_read(6);
+    CHECK(last.told[1] == 0x55 && chip.place == 2, "register 0x000E moves the order");
+}
+
+/* 1 before 9 before 3 before 4: lengths, then each field out of its range, then ports and places that are there and
+ * that are not, then indexes */
+static void the_order_of_refusals(void) {
+    static const size_t lengths[] = {0, 1, 1024, 3071, 3073, ZK_C_TABLE};
+    static const uint32_t places[] = {0, 7, 0x10000, 0x10bff, 8, 0xffff, 0x10c00, UINT32_MAX};
+    static const struct {
+        unsigned port;
+        uint16_t index;
+        int write, read;
+    } at[] = {{4, 0x4400, 0, 0}, {5, 0x7fff, 0, 0}, {6, 0x000e, 0, 0}, {6, 0x4000, 0, 4}, {6, 0x43ff, 0, 4},
+              {6, 0x8000, 4, 0}, {6, 0x83ff, 4, 0}, {6, 0x3fff, 4, 4}, {6, 0x4400, 4, 4}, {6, 0x7fff, 4, 4},
+              {6, 0x8400, 4, 4}, {6, 0x000d, 4, 4}, {3, 0x000e, 3, 3}, {7, 0x4400, 3, 3}, {255, 0x8000, 3, 3}};
+    for (int n = 0; n < 6; n++) {
+        lend(lengths[n], 1);
+        for (int field = 0; field <= SPOILT; field++) {
+            int first = n < 5 ? 1 : field < SPOILT ? 9 : 0;
+            chip = spoilt(field, 1024);
+            for (int k = 0; k < 8; k++)
+                do_look(places[k]), check_refusal(&looks, places[k], field, first || k < 4 ? first : 3);
+            for (size_t k = 0; k < COUNT(at); k++) {
+                chip = spoilt(field, 1024), chip.index = at[k].index;
+                do_write(at[k].port, 0x80);
+                check_refusal(&writes, at[k].index, field, first ? first : at[k].write);
+                chip = spoilt(field, 1024), chip.index = at[k].index;
+                do_read(at[k].port);
+                check_refusal(&reads, at[k].index, field, first ? first : at[k].read);
+            }
+        }
+    }
+}
+
+/* ---- by hand: looks */
+
+static uint32_t look_at(zk_c_state s, uint32_t place) { return as_number(zk_c_look(s, place, table, length)); }
+static uint32_t good_look(uint32_t place) { return look_at(some_state(1), place); }
 
 /* a state of eight different numbers, and a table of 3,072 different ones, most of them over 1,023 */
 static void every_place_of_a_look(void) {
     static const zk_c_state s = {0x8123, 1001, 502, {303, 104, 905}, 2, 0xa6};
     static const uint32_t numbers[8] = {0x8123, 2, 1001, 502, 303, 104, 905, 0xa6};
-    lend(NUMBERS, 1);
-    for (unsigned i = 0; i < NUMBERS; i++) buffer(NUMBERS)[i] = model.table[i] = (uint16_t)(65535 - 21 * i);
+    lend(ZK_C_TABLE, 1);
+    for (unsigned i = 0; i < ZK_C_TABLE; i++) table[i] = plain_table[i] = (uint16_t)(65535 - 21 * i);
     for (uint32_t place = 0; place < 8; place++)
-        CHECK(looked(s, place) == numbers[place], "place %u: %06x", (unsigned)place, (unsigned)looked(s, place));
-    for (unsigned i = 0; i < NUMBERS; i++)
-        CHECK(looked(s, ZK_C_LOOK_TABLE + i) == 65535 - 21 * i, "number %u: %06x", i,
-              (unsigned)looked(s, ZK_C_LOOK_TABLE + i));
-    model.s = s;
-    for (uint32_t place = 0; place < 0x20000; place += place < 0x10 ? 1 : 1 + check_below(16)) do_look(place);
+        CHECK(look_at(s, place) == numbers[place], "place %u: %06x", (unsigned)place, (unsigned)look_at(s, place));
+    for (unsigned i = 0; i < ZK_C_TABLE; i++)
+        CHECK(look_at(s, ZK_C_LOOK_TABLE + i) == 65535 - 21 * i, "number %u: %06x", i,
+              (unsigned)look_at(s, ZK_C_LOOK_TABLE + i));
+    chip = s;
+    for (uint32_t place = 0; place < 0x20000; place += place < 0x10 ? 1 : 1 + below(16)) do_look(place);
 }
 
 /* the header's names, in the order of the places */
 static void names_of_the_places(void) {
-    static const int names[8] = {ZK_C_LOOK_INDEX,        ZK_C_LOOK_PLACE,       ZK_C_LOOK_RED,
-                                 ZK_C_LOOK_GREEN,        ZK_C_LOOK_FETCHED_RED, ZK_C_LOOK_FETCHED_GREEN,
-                                 ZK_C_LOOK_FETCHED_BLUE, ZK_C_LOOK_UPDATE};
-    for (int i = 0; i < 8; i++) CHECK(names[i] == i, "the name of place %d is %d", i, names[i]);
+    static const int in_order[8] = {ZK_C_LOOK_INDEX,        ZK_C_LOOK_PLACE,       ZK_C_LOOK_RED,
+                                    ZK_C_LOOK_GREEN,        ZK_C_LOOK_FETCHED_RED, ZK_C_LOOK_FETCHED_GREEN,
+                                    ZK_C_LOOK_FETCHED_BLUE, ZK_C_LOOK_UPDATE};
+    for (int i = 0; i < 8; i++) CHECK(in_order[i] == i, "the name of place %d is %d", i, in_order[i]);
     CHECK(ZK_C_LOOK_TABLE == 0x10000, "the name of the table");
 }
 
 static void places_that_are_not_there(void) {
     static const uint32_t there[] = {0, 7, 0x10000, 0x10bff};
     static const uint32_t edges[] = {8, 0x0e, 0xff, 0x4000, 0xffff, 0x10000 + 3072, 0x1ffff, 0x20000, 0xffffffff};
-    lend(NUMBERS, 1);
-    for (unsigned i = 0; i < sizeof there / sizeof *there; i++) {
-        CHECK(looked(some_state(1), there[i]) < REFUSED(1), "place %lx is there", (unsigned long)there[i]);
-        for (int bit = 17; bit < 32; bit++) { /* no bit above the places is dropped */
-            uint32_t place = there[i] | (uint32_t)1 << bit;
-            CHECK(looked(some_state(1), place) == REFUSED(3), "place %lx is not there", (unsigned long)place);
-        }
-    }
-    for (unsigned i = 0; i < sizeof edges / sizeof *edges; i++)
-        CHECK(looked(some_state(1), edges[i]) == REFUSED(3), "place %lx is not there", (unsigned long)edges[i]);
-}
-
-/* 1 before 9 before 3: lengths, then each field out of its range, then places that are there and that are not */
-static void refusals_of_a_look(void) {
-    static const size_t lengths[] = {0, 1, 1024, 3071, 3073, NUMBERS};
-    static const uint32_t at[] = {0, 7, 0x10000, 0x10bff, 8, 0xffff, 0x10c00, UINT32_MAX};
-    for (int n = 0; n < 6; n++) {
-        lend(lengths[n], 1);
-        for (int field = 0; field < 7; field++)
-            for (int k = 0; k < 8; k++) {
-                zk_c_state s = some_state(1);
-                if (field == 0) s.place = 3;
-                if (field == 1) s.red = 1024;
-                if (field == 2) s.green = 1024;
-                if (field == 3) s.fetched.red = 1024;
-                if (field == 4) s.fetched.green = 1024;
-                if (field == 5) s.fetched.blue = 1024;
-                uint32_t got = looked(s, at[k]), want = n < 5 ? 1 : field < 6 ? 9 : k < 4 ? 0 : 3;
-                CHECK(want ? got == REFUSED(want) : got < REFUSED(1), "%lu numbers, field %d, place %lx: %06lx",
-                      (unsigned long)lengths[n], field, (unsigned long)at[k], (unsigned long)got);
-                model.s = s;
-                do_look(at[k]);
-            }
-    }
+    lend(ZK_C_TABLE, 1);
+    check_places(good_look, there, COUNT(there), edges, COUNT(edges), 17);
 }
 
 /* reads step and fetch; looks before each, at the index, the order, the fetched entry and the lent one, leave it so */
 static void a_look_between_reads(void) {
-    lend(NUMBERS, 1);
-    memset(&model.s, 0, sizeof model.s);
+    lend(ZK_C_TABLE, 1);
+    memset(&chip, 0, sizeof chip);
     point(READ_SPACE + 5);
     for (unsigned i = 0; i < 9; i++) {
-        const uint16_t *entry = buffer(NUMBERS) + 15 + 3 * (i / 3);
-        CHECK(looked(model.s, ZK_C_LOOK_INDEX) == READ_SPACE + 5 + i / 3, "the index before read %u", i);
-        CHECK(looked(model.s, ZK_C_LOOK_PLACE) == i % 3, "the order before read %u", i);
+        const uint16_t *entry = table + 15 + 3 * (i / 3);
+        CHECK(look_at(chip, ZK_C_LOOK_INDEX) == READ_SPACE + 5 + i / 3, "the index before read %u", i);
+        CHECK(look_at(chip, ZK_C_LOOK_PLACE) == i % 3, "the order before read %u", i);
         for (uint32_t gun = 0; gun < 3; gun++) {
-            CHECK(looked(model.s, ZK_C_LOOK_FETCHED_RED + gun) == entry[gun] % 1024, "fetched before read %u", i);
-            CHECK(looked(model.s, ZK_C_LOOK_TABLE + 15 + i / 3 * 3 + gun) == entry[gun], "lent before read %u", i);
+            CHECK(look_at(chip, ZK_C_LOOK_FETCHED_RED + gun) == entry[gun] % 1024, "fetched before read %u", i);
+            CHECK(look_at(chip, ZK_C_LOOK_TABLE + 15 + i / 3 * 3 + gun) == entry[gun], "lent before read %u", i);
         }
         do_read(6);
-        CHECK(model.value == (unsigned)(entry[i % 3] % 1024 / 4), "read %u", i);
+        CHECK(last.told[1] == entry[i % 3] % 1024 / 4, "read %u", i);
     }
 }
 
-static void every_reset(void) {
-    for (unsigned round = 0; round < 100000; round++) {
-        zk_c_state zero, given = some_state(check_below(2) == 0);
-        zk_c_answer a = zk_c_reset(given);
-        memset(&zero, 0, sizeof zero);
-        CHECK(a.refusal == 0 && a.value == 0 && same_state(a.state, zero), "reset at index %04x place %u: refusal %u",
-              given.index, given.place, a.refusal);
-    }
-}
-
-static void documents_vectors(void) {
-    zk_c_state zero;
-    memset(&zero, 0, sizeof zero);
-    lend(NUMBERS, 1);
-    model.s = zero;
-    point(0x43ff);
-    do_write(6, 0xff), do_write(6, 0x80), do_write(6, 0x00);
-    CHECK(buffer(NUMBERS)[3069] == 1023 && buffer(NUMBERS)[3070] == 514 && buffer(NUMBERS)[3071] == 0, "entry 1023");
-    CHECK(model.s.index == 0x4000, "0x43ff steps to %04x", model.s.index);
-    point(0x8000);
-    do_write(4, 0x05);
-    for (int i = 0; i < 3; i++) {
-        do_read(6);
-        CHECK(model.value == (unsigned)(buffer(NUMBERS)[i] % 1024 / 4), "port 4 alone fetches nothing: place %d", i);
-    }
-    CHECK(model.s.index == 0x8006 && model.s.fetched.red == buffer(NUMBERS)[18] % 1024, "then entry 6 is fetched");
-}
-
-static void each_refusal_was_met(void) {
-    static const unsigned reachable[] = {0, ZK_LENT_LENGTH, ZK_OUT_OF_RANGE, ZK_NO_ACCESS, ZK_NO_INDEX};
-    for (int call = 0; call < 3; call++)
-        for (unsigned i = 0; i < 5; i++) {
-            unsigned long n = met[call][reachable[i]];
-            CHECK(call == 2 && reachable[i] == ZK_NO_INDEX ? n == 0 : n >= 1000, "refusal %u was met %lu times",
-                  reachable[i], n);
-        }
+static void refusals_met(void) {
+    check_met(&writes, 1000), check_met(&reads, 1000), check_met(&looks, 1000), check_met(&resets, 1000);
 }
 
 int main(void) {
     check_start();
-    RUN(documents_vectors);
     RUN(every_index_and_place);
     RUN(every_port_and_byte);
     RUN(one_field_out_of_range);
     RUN(other_lengths);
     RUN(runs_of_calls);
+    RUN(every_reset);
     RUN(reads_back);
+    RUN(accesses_by_hand);
+    RUN(the_order_of_refusals);
     RUN(every_place_of_a_look);
     RUN(names_of_the_places);
     RUN(places_that_are_not_there);
-    RUN(refusals_of_a_look);
     RUN(a_look_between_reads);
-    RUN(every_reset);
-    RUN(each_refusal_was_met);
+    RUN(refusals_met);
     FINISH();
 }

@@ -16,8 +16,8 @@ static int queue_in_range(const uint64_t *queue, unsigned waiting) {
 static unsigned standing(zk_b_state s, const uint64_t *queue, size_t places, size_t bytes) {
     if (!CHECKED) return 0;
     if (places != ZK_B_PLACES || bytes != ZK_B_MAP) return ZK_LENT_LENGTH;
-    if (s.port.address >= ZK_B_ENTRIES || s.port.counter > 2 || s.control.command > 31 || s.control.readmode > 1
-        || s.ident.revision > 7 || s.ident.board > 15 || s.fifo.waiting > ZK_B_PLACES)
+    if (s.port.address >= ZK_B_ENTRIES || s.port.counter > 2 || (s.control.command & ZK_B_COMMAND_RESERVED) != 0
+        || s.control.readmode > 1 || s.ident.revision > 7 || s.ident.board > 15 || s.fifo.waiting > ZK_B_PLACES)
         return ZK_OUT_OF_RANGE;
     return queue_in_range(queue, s.fifo.waiting) ? 0 : ZK_OUT_OF_RANGE;
 }
@@ -53,7 +53,7 @@ static zk_b_state stepped(zk_b_state s) {
 }
 
 static zk_b_answer palette_write(zk_b_state s, uint8_t byte, uint64_t *queue, uint8_t *map) {
-    unsigned moved = s.fifo.waiting == ZK_B_PLACES ? transfer(&s, 4, queue, map) : 0;
+    unsigned moved = s.fifo.waiting == ZK_B_PLACES ? transfer(&s, ZK_B_FORCED, queue, map) : 0;
     if (s.port.counter == 0) {
         s.port.red = byte;
     } else if (s.port.counter == 1) {
@@ -69,27 +69,29 @@ zk_b_answer NAME(b_write)(zk_b_state s, uint8_t select, uint8_t byte, uint64_t *
     unsigned refusal = standing(s, queue, places, bytes);
     if (refusal != 0) return answer(refusal, 0, 0, s);
     switch (select) {
-    case 0:
+    case ZK_B_SELECT_ADDRESS_LOW:
         s.port.address = (uint16_t)((s.port.address & 0xff00) | byte);
         s.port.counter = 0;
         break;
-    case 1:
+    case ZK_B_SELECT_ADDRESS_HIGH:
         s.port.address = (uint16_t)((s.port.address & 0x00ff) | (byte & 31) << 8);
         s.port.counter = 0;
         break;
-    case 2:
+    case ZK_B_SELECT_PALETTE:
         if (s.control.readmode) return answer(ZK_READ_MODE, 0, 0, s);
         return palette_write(s, byte, queue, map);
-    case 3: s.control.command = byte & 31; break;
-    case 7: s.control.readmode = 1; break;
+    case ZK_B_SELECT_COMMAND: s.control.command = (uint8_t)(byte & ~ZK_B_COMMAND_RESERVED); break;
+    case ZK_B_SELECT_READMODE: s.control.readmode = 1; break;
     default: return answer(ZK_NO_ACCESS, 0, 0, s);
     }
     return answer(0, 0, 0, s);
 }
 
 static unsigned status(zk_b_state s) {
-    unsigned waiting = s.fifo.waiting, mark = (s.control.command & 16) != 0 ? 56 : 32;
-    return s.port.counter | (waiting != 0) << 2 | (waiting < mark) << 3 | (waiting < ZK_B_PLACES) << 4;
+    unsigned waiting = s.fifo.waiting, almost = s.control.command & ZK_B_COMMAND_AFB;
+    unsigned mark = almost ? ZK_B_ALMOST_FULL : ZK_B_HALF_FULL;
+    return s.port.counter | (waiting != 0 ? ZK_B_STATUS_EFB : 0u) | (waiting < mark ? ZK_B_STATUS_AFB : 0u)
+           | (waiting < ZK_B_PLACES ? ZK_B_STATUS_FFB : 0u);
 }
 
 zk_b_answer NAME(b_read)(zk_b_state s, uint8_t select, const uint64_t *queue, size_t places, const uint8_t *map,
@@ -97,21 +99,21 @@ zk_b_answer NAME(b_read)(zk_b_state s, uint8_t select, const uint64_t *queue, si
     unsigned refusal = standing(s, queue, places, bytes);
     if (refusal != 0) return answer(refusal, 0, 0, s);
     switch (select) {
-    case 0: return answer(0, s.port.address & 0xff, 0, s);
-    case 1: return answer(0, s.port.address >> 8, 0, s);
-    case 2:
+    case ZK_B_SELECT_ADDRESS_LOW: return answer(0, s.port.address & 0xff, 0, s);
+    case ZK_B_SELECT_ADDRESS_HIGH: return answer(0, s.port.address >> 8, 0, s);
+    case ZK_B_SELECT_PALETTE:
         if (!s.control.readmode) return answer(ZK_READ_MODE, 0, 0, s);
         if (s.fifo.waiting != 0) return answer(ZK_STILL_WAITING, 0, 0, s);
         return answer(0, map[3 * s.port.address + s.port.counter], 0, stepped(s));
-    case 3: return answer(0, s.control.command, 0, s);
-    case 4: return answer(0, status(s), 0, s);
-    case 5:
+    case ZK_B_SELECT_COMMAND: return answer(0, s.control.command, 0, s);
+    case ZK_B_SELECT_STATUS: return answer(0, status(s), 0, s);
+    case ZK_B_SELECT_BUFFER:
         if (s.port.counter == 2) return answer(ZK_NO_ACCESS, 0, 0, s);
         if (s.port.counter == 1) return answer(0, s.port.green, 0, s);
         s.port.counter = 1;
         return answer(0, s.port.red, 0, s);
-    case 6: return answer(0, s.ident.board << 4 | s.ident.revision, 0, s);
-    case 7: s.control.readmode = 0; return answer(0, 0, 0, s);
+    case ZK_B_SELECT_REVISION: return answer(0, s.ident.board << 4 | s.ident.revision, 0, s);
+    case ZK_B_SELECT_READMODE: s.control.readmode = 0; return answer(0, 0, 0, s);
     default: return answer(ZK_NO_ACCESS, 0, 0, s);
     }
 }
@@ -151,13 +153,13 @@ zk_b_shown NAME(b_pixel)(zk_b_state s, uint8_t mode, uint32_t word, const uint64
     zk_b_shown shown = {(uint8_t)refusal, 0, 0, 0};
     if (CHECKED && refusal == 0 && (mode > 3 || word > 0xffffff)) shown.refusal = ZK_OUT_OF_RANGE;
     if (shown.refusal != 0) return shown;
-    if (mode == 0) {
+    if (mode == ZK_B_MODE_INDEX) {
         const uint8_t *entry = map + 3 * (word & (ZK_B_ENTRIES - 1));
         shown.red = entry[0];
         shown.green = entry[1];
         shown.blue = entry[2];
     } else {
-        const uint8_t *part = map + 3 * (7168 + 256 * mode);
+        const uint8_t *part = map + 3 * (ZK_B_RGB1_ENTRY + 256 * (mode - ZK_B_MODE_RGB1));
         shown.red = part[3 * (word & 0xff)];
         shown.green = part[3 * (word >> 8 & 0xff) + 1];
         shown.blue = part[3 * (word >> 16) + 2];

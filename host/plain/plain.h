@@ -1,9 +1,10 @@
-/* plain.h: the library's calls in plain C, written from document 01 and, of the look, request P5 of document 02, to
- * measure the proved ones against.
+/* plain.h: the library's calls in plain C, written from document 01 and requests P3 and P5 of document 02, not from the
+ * Rattle code. The C tests (host/c) compare the library with these, call by call; host/bench measures it against them.
  *
- * The types are those of zikombaru.h. The sources are compiled twice. With CHECKED 1 the calls are plain_..: the same
- * contract, any input, the refusals in their order. With CHECKED 0 they are bare_..: lengths and ranges (refusals 1 and
- * 9, the writer's 2 and 7) are not tested, so that the difference is what validation costs in C. */
+ * Types, names and order of arguments are those of zikombaru.h. The sources are compiled with CHECKED 1 or 0. With 1
+ * the calls are plain_..: the same contract, any input, the refusals in their order. With 0, for the bench alone, they
+ * are bare_..: lengths and ranges (refusals 1 and 9, the writer's 2 and 7) are not tested, so that the difference is
+ * what validation costs in C. */
 #ifndef PLAIN_H
 #define PLAIN_H
 
@@ -21,8 +22,10 @@
     zk_a_answer p##_a_reset(zk_a_state s);                                                                             \
     zk_a_clock_answer p##_a_step(zk_a_clock k);                                                                        \
     uint8_t p##_a_tick(zk_a_clock *k);                                                                                 \
-    zk_a_shown p##_a_pixel(zk_a_state s, const uint8_t *colours, size_t colours_length, const uint8_t *overlays,       \
-                           size_t overlays_length, uint8_t enable, uint8_t number, uint8_t byte);                      \
+    zk_a_shown p##_a_pixel(zk_a_state s, uint8_t enable, uint8_t number, uint8_t byte, const uint8_t *colours,         \
+                           size_t colours_length, const uint8_t *overlays, size_t overlays_length);                    \
+    uint8_t p##_a_pixel_refusal(zk_a_state s, uint8_t enable, uint8_t number, uint8_t byte, const uint8_t *colours,    \
+                                size_t colours_length, const uint8_t *overlays, size_t overlays_length);               \
     zk_b_answer p##_b_write(zk_b_state s, uint8_t select, uint8_t byte, uint64_t *queue, size_t places, uint8_t *map,  \
                             size_t bytes);                                                                             \
     zk_b_answer p##_b_read(zk_b_state s, uint8_t select, const uint64_t *queue, size_t places, const uint8_t *map,     \
@@ -45,10 +48,16 @@
 PLAIN_CALLS(plain)
 PLAIN_CALLS(bare)
 
+/* ---- what two of the sources share */
+
 static inline zk_looked looked(unsigned refusal, unsigned value) {
     zk_looked l = {(uint8_t)refusal, (uint16_t)value};
     return l;
 }
+
+/* chip A's blink clock, in ticks */
+static inline unsigned on_time(unsigned timing) { return 4 * ((timing & 15) + 1); }
+static inline unsigned period(unsigned timing) { return on_time(timing) + 4 * ((timing >> 4) + 1); }
 
 #ifdef CHECKED
 #if CHECKED
@@ -56,6 +65,14 @@ static inline zk_looked looked(unsigned refusal, unsigned value) {
 #else
 #define NAME(call) bare_##call
 #endif
+
+/* refusals 1 and 9 of chip A's calls, the sheet writer's too */
+static inline unsigned standing_a(zk_a_state s, size_t colours, size_t overlays) {
+    if (!CHECKED) return 0;
+    if (colours != ZK_A_COLOURS || overlays != ZK_A_OVERLAYS) return ZK_LENT_LENGTH;
+    if (s.pointer > 2 || s.red > 15 || s.green > 15 || (s.control & ZK_A_CONTROL_RESERVED) != 0) return ZK_OUT_OF_RANGE;
+    return s.clock.position < period(s.clock.timing) ? 0 : ZK_OUT_OF_RANGE;
+}
 #endif
 
 #endif

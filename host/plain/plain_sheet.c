@@ -4,7 +4,7 @@
 
 #include <string.h>
 
-enum { OVERLAYS = 4, COLOURS = 256, ENTRIES = OVERLAYS + COLOURS, MISSING = 0xffff };
+enum { OVERLAYS = ZK_A_OVERLAY_ENTRIES, COLOURS = ZK_A_COLOUR_ENTRIES, MISSING = 0xffff };
 
 static uint64_t packed(unsigned refusal, unsigned count, unsigned line) {
     return refusal | (uint64_t)count << 32 | (uint64_t)line << 48;
@@ -27,7 +27,7 @@ static int number(const uint8_t *t, int n) {
 
 struct sheet {
     uint8_t registers[4];
-    uint16_t entries[ENTRIES]; /* overlays, then colours */
+    uint16_t entries[OVERLAYS + COLOURS];
 };
 
 static const struct {
@@ -47,7 +47,7 @@ static unsigned read_sheet(const uint8_t *t, size_t length, struct sheet *sheet)
         line++;
         if ((size_t)(end - t) < n + 3 || memcmp(t, keys[i].text, n) != 0 || t[n + 2] != '\n') return line;
         v = number(t + n, 2);
-        if (v < 0 || (i == 2 && (v & 0xb0) != 0)) return line;
+        if (v < 0 || (i == 2 && (v & ZK_A_CONTROL_RESERVED) != 0)) return line;
         sheet->registers[i] = (uint8_t)v;
         t += n + 3;
     }
@@ -86,7 +86,7 @@ static uint8_t *put_table(uint8_t *out, unsigned select, const uint16_t *entries
     for (unsigned i = 0; i < n; i++) {
         unsigned v = entries[i];
         if (v == MISSING) continue;
-        if (i == 0 || entries[i - 1] == MISSING) out = put_call(out, 0, i);
+        if (i == 0 || entries[i - 1] == MISSING) out = put_call(out, ZK_A_SELECT_ADDRESS, i);
         out = put_call(out, select, v >> 8);
         out = put_call(out, select, v >> 4 & 15);
         out = put_call(out, select, v & 15);
@@ -100,9 +100,9 @@ uint64_t NAME(sheet_to_calls)(const uint8_t *text, size_t text_length, uint8_t *
     if (bad != 0) return packed(ZK_MALFORMED, 0, bad);
     count = 4 + count_table(sheet.entries, OVERLAYS) + count_table(sheet.entries + OVERLAYS, COLOURS);
     if (calls_length < 2 * count) return packed(ZK_SHORT_BUFFER, 0, 0);
-    for (unsigned i = 0; i < 4; i++) calls = put_call(calls, 4 + i, sheet.registers[i]);
-    calls = put_table(calls, 3, sheet.entries, OVERLAYS);
-    put_table(calls, 1, sheet.entries + OVERLAYS, COLOURS);
+    for (unsigned i = 0; i < 4; i++) calls = put_call(calls, ZK_A_SELECT_READMASK + i, sheet.registers[i]);
+    calls = put_table(calls, ZK_A_SELECT_OVERLAY, sheet.entries, OVERLAYS);
+    put_table(calls, ZK_A_SELECT_COLOUR, sheet.entries + OVERLAYS, COLOURS);
     return packed(0, count, 0);
 }
 
@@ -114,11 +114,8 @@ static int over_fifteen(const uint8_t *table, size_t n) {
 
 static unsigned refused_write(zk_a_state s, const uint8_t *colours, size_t colours_length, const uint8_t *overlays,
                               size_t overlays_length, size_t sheet_length) {
-    unsigned period = 4 * ((s.clock.timing & 15) + 1) + 4 * ((s.clock.timing >> 4) + 1);
-    if (!CHECKED) return 0;
-    if (colours_length != ZK_A_COLOURS || overlays_length != ZK_A_OVERLAYS) return ZK_LENT_LENGTH;
-    if (s.pointer > 2 || s.red > 15 || s.green > 15 || (s.control & 0xb0) != 0 || s.clock.position >= period)
-        return ZK_OUT_OF_RANGE;
+    unsigned refusal = standing_a(s, colours_length, overlays_length);
+    if (!CHECKED || refusal != 0) return refusal;
     if (over_fifteen(colours, ZK_A_COLOURS) || over_fifteen(overlays, ZK_A_OVERLAYS)) return ZK_OVER_FIFTEEN;
     return sheet_length < ZK_SHEET_BYTES ? ZK_SHORT_BUFFER : 0;
 }

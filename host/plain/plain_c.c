@@ -2,8 +2,6 @@
  * a table. */
 #include "plain.h"
 
-enum { NUMBERS = 3072, WRITE_SPACE = 0x4000, READ_SPACE = 0x8000, UPDATE_CONTROL = 0x000E, WRAI = 2, RDAI = 4 };
-
 static uint16_t linear8(unsigned v) { return (uint16_t)(v << 2 | v >> 6); }
 static uint16_t linear6(unsigned v) { return (uint16_t)(v << 4 | v >> 2); }
 
@@ -20,7 +18,7 @@ uint64_t NAME(expand6)(uint32_t component) {
 /* refusals 1 and 9 */
 static unsigned standing(zk_c_state s, size_t length) {
     if (!CHECKED) return 0;
-    if (length != NUMBERS) return ZK_LENT_LENGTH;
+    if (length != ZK_C_TABLE) return ZK_LENT_LENGTH;
     return s.place > 2 || s.red > 1023 || s.green > 1023 || s.fetched.red > 1023 || s.fetched.green > 1023
                    || s.fetched.blue > 1023
                ? ZK_OUT_OF_RANGE
@@ -32,11 +30,12 @@ static zk_c_answer answer(unsigned refusal, unsigned value, zk_c_state s) {
     return a;
 }
 
+/* space is the first of its indexes */
 static int in_space(unsigned index, unsigned space) { return (index & 0xfc00) == space; }
 
 static zk_c_state prefetch(zk_c_state s, const uint16_t *table) {
-    if (in_space(s.index, READ_SPACE)) {
-        const uint16_t *entry = table + 3 * (s.index & 0x3ff);
+    if (in_space(s.index, ZK_C_INDEX_READ)) {
+        const uint16_t *entry = table + 3 * (s.index & 0x03ff);
         s.fetched.red = entry[0] & 0x3ff;
         s.fetched.green = entry[1] & 0x3ff;
         s.fetched.blue = entry[2] & 0x3ff;
@@ -48,12 +47,12 @@ static zk_c_state prefetch(zk_c_state s, const uint16_t *table) {
 static zk_c_state restart(zk_c_state s, unsigned bit, const uint16_t *table) {
     s.place = 0;
     if ((s.update & bit) != 0) return s;
-    s.index = (uint16_t)((s.index & 0xfc00) | ((s.index + 1) & 0x3ff));
+    s.index = (uint16_t)((s.index & 0xfc00) | ((s.index + 1) & 0x03ff));
     return prefetch(s, table);
 }
 
 static zk_c_state palette_write(zk_c_state s, uint8_t byte, uint16_t *table) {
-    uint16_t v = linear8(byte), *entry = table + 3 * (s.index & 0x3ff);
+    uint16_t v = linear8(byte), *entry = table + 3 * (s.index & 0x03ff);
     if (s.place == 0) {
         s.red = v;
         s.place = 1;
@@ -67,23 +66,23 @@ static zk_c_state palette_write(zk_c_state s, uint8_t byte, uint16_t *table) {
     entry[0] = s.red;
     entry[1] = s.green;
     entry[2] = v;
-    return restart(s, WRAI, table);
+    return restart(s, ZK_C_UPDATE_WRAI, table);
 }
 
 zk_c_answer NAME(c_write)(zk_c_state s, uint8_t port, uint8_t byte, uint16_t *table, size_t length) {
     unsigned refusal = standing(s, length);
     if (refusal != 0) return answer(refusal, 0, s);
     switch (port) {
-    case 4: s.index = (uint16_t)((s.index & 0xff00) | byte); break;
-    case 5:
+    case ZK_C_PORT_INDEX_LOW: s.index = (uint16_t)((s.index & 0xff00) | byte); break;
+    case ZK_C_PORT_INDEX_HIGH:
         s.index = (uint16_t)((s.index & 0x00ff) | byte << 8);
         s.place = 0;
         s = prefetch(s, table);
         break;
-    case 6:
-        if (s.index == UPDATE_CONTROL) {
+    case ZK_C_PORT_DATA:
+        if (s.index == ZK_C_INDEX_UPDATE) {
             s.update = byte;
-        } else if (in_space(s.index, WRITE_SPACE)) {
+        } else if (in_space(s.index, ZK_C_INDEX_WRITE)) {
             s = palette_write(s, byte, table);
         } else {
             return answer(ZK_NO_INDEX, 0, s);
@@ -103,18 +102,18 @@ static zk_c_answer palette_read(zk_c_state s, const uint16_t *table) {
         s.place = 2;
         return answer(0, s.fetched.green >> 2, s);
     }
-    return answer(0, s.fetched.blue >> 2, restart(s, RDAI, table));
+    return answer(0, s.fetched.blue >> 2, restart(s, ZK_C_UPDATE_RDAI, table));
 }
 
 zk_c_answer NAME(c_read)(zk_c_state s, uint8_t port, const uint16_t *table, size_t length) {
     unsigned refusal = standing(s, length);
     if (refusal != 0) return answer(refusal, 0, s);
     switch (port) {
-    case 4: return answer(0, s.index & 0xff, s);
-    case 5: return answer(0, s.index >> 8, s);
-    case 6:
-        if (s.index == UPDATE_CONTROL) return answer(0, s.update, s);
-        if (in_space(s.index, READ_SPACE)) return palette_read(s, table);
+    case ZK_C_PORT_INDEX_LOW: return answer(0, s.index & 0xff, s);
+    case ZK_C_PORT_INDEX_HIGH: return answer(0, s.index >> 8, s);
+    case ZK_C_PORT_DATA:
+        if (s.index == ZK_C_INDEX_UPDATE) return answer(0, s.update, s);
+        if (in_space(s.index, ZK_C_INDEX_READ)) return palette_read(s, table);
         return answer(ZK_NO_INDEX, 0, s);
     default: return answer(ZK_NO_ACCESS, 0, s);
     }
@@ -124,7 +123,7 @@ zk_looked NAME(c_look)(zk_c_state s, uint32_t place, const uint16_t *table, size
     unsigned refusal = standing(s, length);
     uint32_t number = place - ZK_C_LOOK_TABLE;
     if (refusal != 0) return looked(refusal, 0);
-    if (number < NUMBERS) return looked(0, table[number]);
+    if (number < ZK_C_TABLE) return looked(0, table[number]);
     switch (place) {
     case ZK_C_LOOK_INDEX: return looked(0, s.index);
     case ZK_C_LOOK_PLACE: return looked(0, s.place);
