@@ -1,3 +1,5 @@
+-- Six writes one behind the other are the bytes of a colour's three calls (`colour-stored`), of the digits that `low`
+-- promises. Each is inside the buffer as the writes before left it, which is as long (`length-set`).
 use native.Mathlib.Omega.{arith}
 use lib.ListN.{length-set}
 use Rattle.calls.proofs.Stored.{colour-stored}

@@ -1,3 +1,5 @@
+-- The invariant: the count so far and that of the entries left make the whole. A turn is `counts-on`, the end
+-- `counts-all`. At most four an entry, it says too: so the sum fits, and the promised bound holds.
 use Prim.Native.Nat.{_+_, _-_, _*_, _≤_}
 use mathlib.Core.Path.{_≡_}
 use mathlib.Core.Bool.{false}

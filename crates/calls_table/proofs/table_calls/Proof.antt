@@ -1,3 +1,6 @@
+-- The invariant: the calls from `entry` on are left to write, they fit, and with them the buffer is as promised
+-- (`Going`). A turn writes the calls of one entry, which fit too (`entry-fits`, `next-entry`), and tells the next
+-- whether it was there (`follows`). At the end nothing is left (`last-entry`).
 use Prim.Native.Nat.{_-_, _≤_}
 use mathlib.Core.Bool.{false}
 use lib.ListN.{length}

@@ -1,3 +1,5 @@
+-- The overlays' calls take the first n bytes, and the table's calls go into the rest, which is lent on. The laws of a
+-- word in two parts (`Lent`): the first fits, n lies in the buffer, the second fits the rest, both make the whole.
 use Rattle.calls.proofs.Lent.{overlays-fit, tables-inside, tables-room, tables-behind}
 use borrow.Author.Needs.{needs}
 use Rattle.calls_write.proofs.tables_calls.Statement.{statement}
@@ -5,6 +7,7 @@ use Rattle.calls_write.proofs.tables_calls.Tie as tie
 
 ruleset parts = (overlays-fit, tables-inside, tables-room, tables-behind, needs)
 
+-- n lies in the buffer: h has it, in the terms of the need
 part-start : tie.Need-part-table-calls-start-3
 part-start c =
     let s = c .before .before .before .before .before .before .before .before in

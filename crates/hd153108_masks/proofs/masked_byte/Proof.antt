@@ -1,3 +1,5 @@
+-- In the on time, one `and` with the read mask's complement (`masked-on`, of eight lines); in the off time one more,
+-- with the blink mask (`masked-off`). Which time it is, the test says, and is put into the promise first.
 use Prim.Native.Nat.{_-_}
 use native.Mathlib.Omega.{arith}
 use Rattle.hd153108.proofs.Masks.{masked-on, masked-off}

@@ -1,3 +1,5 @@
+-- In the on time, one `and` with the control's complement (`masked-on`): of its eight bits two are the number's lines
+-- and six lie above, where the number has none. In the off time one more, with the blink mask (`masked-off`).
 use Prim.Native.Nat.{_-_, _/_}
 use native.Mathlib.Omega.{arith}
 use Rattle.hd153108.proofs.Masks.{masked-on, masked-off}

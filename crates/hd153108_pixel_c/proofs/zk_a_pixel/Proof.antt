@@ -1,3 +1,5 @@
+-- `picked` promises what its decision means, and each arm knows which decision it was (`p .given .1`). So the entry
+-- lies in its table (`inside-as`), which `shown_at` asks, and what is shown is what the call answers (`told-as`).
 use Rattle.hd153108_shown.proofs.Rule.{told-as, inside-as}
 use Rattle.vocabulary.proofs.Pixel.{shown-as}
 use Rattle.hd153108_pixel_c.proofs.zk_a_pixel.Statement.{statement}

@@ -1,3 +1,6 @@
+-- A number past its range contradicts that all ranges hold (`not-meets`); of the reserved bits the test itself says
+-- so, since omega reads no mask. The last test is the answer, so both ways are shown (`agree`): true gives all
+-- ranges, with those that were passed, and all ranges give true.
 use native.Mathlib.Omega.{arith}
 use mathlib.Core.Path.{sym}
 use borrow.Author.Tests.{ltb-true, lt-ltb}

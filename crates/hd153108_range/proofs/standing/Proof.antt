@@ -1,3 +1,6 @@
+-- Refusal 1, 9 or none, by the laws of `Access` from two conditions: either length as the code's own test, and the
+-- ranges as `good` promises them, under a `!` (`not-true`, `not-false`). The call is `good2` in a path, since `good`
+-- is what owning the parameters tells.
 use mathlib.Core.Path.{sym, _∙_}
 use borrow.Author.Tests.{not-true, not-false}
 use Rattle.vocabulary.proofs.Range.{not-fails, holds-passes, meets-passes, misses-fails}

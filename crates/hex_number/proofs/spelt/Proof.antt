@@ -1,3 +1,5 @@
+-- The invariant: v is the number of the first w digits. A turn is `number-more`. v * 16 and the sum fit 32 bits since
+-- at most seven digits came before (`number-fits` at 7).
 use Prim.Native.Nat.{_≤_, _-_}
 use mathlib.Core.Path.{_≡_, sym}
 use native.Mathlib.Omega.{arith}

@@ -1,3 +1,5 @@
+-- The first `len` of the held bytes, or all, where there are fewer: those are one (`take-all`). The part that `parse`
+-- is lent has just `len` bytes (`length-take-le`).
 use mathlib.Core.Path.{sym}
 use native.Mathlib.Omega.{arith}
 use lib.Seq.{length-take-le, take-all}

@@ -1,3 +1,5 @@
+-- It promises nothing: it is safe, and ends since i goes up to `count`. No invariant: `byte` answers 0 past the end,
+-- so that the count may be any.
 use Prim.Native.Nat.{_-_}
 use borrow.Author.Needs.{needs}
 use Rattle.loadlist.proofs.show_calls.Statement.{statement}

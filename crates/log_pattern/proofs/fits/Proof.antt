@@ -1,3 +1,5 @@
+-- The invariant: pattern and line are of one length, and what is left of them from i on decides. A turn is `fits-on`.
+-- It ends by another length (`fits-length`), a byte that does not stand (`fits-not`), or nothing left (`fits-all`).
 use borrow.Author.Tests.{not-true, not-false}
 use Prim.Native.Nat.{_≤_, _-_}
 use mathlib.Core.Path.{_≡_}

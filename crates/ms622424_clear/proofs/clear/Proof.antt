@@ -1,3 +1,5 @@
+-- The invariant: before i stand the lent places up to `from`, then zeros (`zeroed`), and the rest is as lent. It
+-- begins by `clear-none`, a turn is `clear-next`, and at the end i is `to`.
 use Prim.Native.Nat.{_-_, _≤_}
 use mathlib.Core.Path.{_≡_}
 use mathlib.Core.List.{_++_}

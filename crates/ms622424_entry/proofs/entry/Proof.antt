@@ -1,3 +1,5 @@
+-- Mode by mode: the low 13 bits (`entry-index`), or the mode's base and the gun's byte (`entry-based`, at the mode
+-- less 1). The last arm names no mode: 3 is what the others leave below 4.
 use mathlib.Core.Path.{_≡_, refl}
 use native.Mathlib.Omega.{arith}
 use Rattle.ms622424_entry.proofs.Outputs.{entry-index, entry-based}

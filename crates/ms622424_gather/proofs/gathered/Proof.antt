@@ -1,3 +1,5 @@
+-- The invariant: for every k, the bits so far are below 2 ^ k exactly when each place passed is. A turn is
+-- `gather-next`, since an `or` is below a power of 2 exactly when both its parts are. At the end i is `to`.
 use Prim.Native.Nat.{ℕ, _-_, _^_, _≤_}
 use mathlib.Core.Path.{_≡_}
 use native.Mathlib.Omega.{arith}

@@ -1,3 +1,6 @@
+-- For any queue q with which the chip is in range (h): refusal 5 outside read mode, 6 while colours wait, else the
+-- byte (`Arms`). The code asks the state's count, and h makes that the queue's. The byte's place lies in the map,
+-- since the address is below 8,192 and the counter below 3.
 use Rattle.ms622424.specs.Ms622424.{answers}
 use Rattle.ms622424_map_read.proofs.Arms.{outside-refused, waiting-refused, palette-served}
 use native.Mathlib.Omega.{arith}

@@ -1,3 +1,6 @@
+-- `make_room` promises the room, `take_byte` the byte taken on what that left, and `palette-written` joins the two.
+-- The free place that `take_byte` asks is there once room is made (`has-room`). `.last .1 .1 .0` is a call's third
+-- parameter as it left it: of `make_room` the map, of `take_byte` the queue.
 use mathlib.Core.Path.{ap, _∙_}
 use Rattle.ms622424.proofs.Write.{palette-written}
 use Rattle.ms622424_places.specs.declared.Answer.{Answer}

@@ -1,3 +1,5 @@
+-- A register past its range contradicts that all ranges hold (`not-meets`). With every register in range the queue's
+-- test decides (`queue-decides`); red and green are bytes anyway. The chip is seen with no map, which no range reads.
 use mathlib.Core.Path.{sym, _∙_}
 use mathlib.Core.List.{[]}
 use native.Mathlib.Omega.{arith}

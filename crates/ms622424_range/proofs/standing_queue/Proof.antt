@@ -1,3 +1,5 @@
+-- Refusal 1, 9 or none, by the laws of `Standing` from two conditions: the length is the code's own test, and the
+-- ranges are what `in_range` promises, under a `!` (`not-true`, `not-false`).
 use mathlib.Core.Path.{sym, _∙_}
 use borrow.Author.Tests.{not-true, not-false}
 use Rattle.vocabulary.proofs.Range.{not-fails, holds-passes, misses-fails, meets-passes}

@@ -1,3 +1,6 @@
+-- Refusal 1 by the length, 9 by the revision or the board (`reset-short`, `reset-outside`), for any map m, since none
+-- is lent. Accepted, `empty` promises that no colour waits and the places are right, which with the registers set is
+-- the fresh chip (`fresh-chip`, `reset-does`).
 use mathlib.Core.Path.{ap, _∙_}
 use native.Mathlib.Omega.{arith}
 use Rattle.vocabulary.specs.Outcome.{accepting}

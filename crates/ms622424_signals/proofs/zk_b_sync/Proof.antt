@@ -1,3 +1,6 @@
+-- A refusal by `refuses`, an answer by `accepts`, with the laws of the signals; for any map m, since none is lent.
+-- `piped` asks a command below 32, which holds since refusal 9 was passed (`signals-range`): no range reads the map,
+-- so that the empty one will do.
 use mathlib.Core.List.{[]}
 use native.Mathlib.Omega.{arith}
 use Rattle.ms622424.proofs.Signals.{signals-tried, signals-outside, signals-range, signals-does}

@@ -1,3 +1,5 @@
+-- The promises of the four `choose`, put into `statusOf` from the last to the first, since the mark, the first,
+-- stands in the test of the third. The sums fit a byte by the bound that `choose` promises too.
 use Rattle.ms622424.specs.Ms622424.{statusOf, mark}
 use borrow.Author.Needs.{needs}
 use Rattle.ms622424_status.proofs.status.Statement.{statement}

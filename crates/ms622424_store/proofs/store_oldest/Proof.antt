@@ -1,3 +1,5 @@
+-- The invariant: `moved` is past neither the slots nor what waits, and the map is the lent one with the first `moved`
+-- places stored. A turn is `stored-next`. Either way out of the loop makes `moved` the least of the two.
 use Prim.Native.Nat.{_-_, _≤_}
 use mathlib.Core.Path.{_≡_, ap, _∙_}
 use native.Mathlib.Omega.{arith}
@@ -17,6 +19,7 @@ Inv-loop waiting slots queue map₀ moved₀ map moved =
 abbrev μ-loop : tie.MeasureT-loop
 μ-loop waiting slots queue map₀ moved₀ map moved = slots - moved
 
+-- stores keep the map's length, which each of them asks, and the return
 kept : (c : tie.At-loop Inv-loop μ-loop) → length (c .loop .map) ≡ length (c .before .before .before .args .map .now)
 kept c = ap length (c .loop .inv .2) ∙ all-stored-length _ _
 

@@ -1,3 +1,6 @@
+-- By the counter: 0 is red, 1 is green, where only the port changes; any other is blue, where `put` promises the
+-- entry at the queue's end (`takes-red`, `takes-green`, `takes-blue`). For any map m, since none is lent. That the
+-- counter is neither 0 nor 1 is `.match .rest`.
 use Rattle.ms622424.specs.Ms622424.{taken, stepped}
 use Rattle.ms622424_take.proofs.Takes.{takes-red, takes-green, takes-blue}
 use borrow.Author.Needs.{needs}

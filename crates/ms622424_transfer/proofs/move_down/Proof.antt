@@ -1,3 +1,5 @@
+-- The invariant: the first i places hold what stood from `gone` on, the others are as lent (`front`), and there are
+-- as many. A turn is `move-next`: the place that it reads, gone + i, is not yet written. At the end i is `left`.
 use Prim.Native.Nat.{_-_, _≤_}
 use mathlib.Core.Path.{_≡_}
 use native.Mathlib.Omega.{arith}

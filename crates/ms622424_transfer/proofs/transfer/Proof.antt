@@ -1,3 +1,6 @@
+-- The three steps, the stores, the entries moved down and the places cleared, leave what `moves` leaves: law
+-- `transferred`, from their promises. They ask that all that waits lies in the 64 places (`small`), and the stores
+-- that each waiting place is below 2 ^ 37 (`place-below`). A name as `down` is the point right after that call.
 use Prim.Native.Nat.{_<_}
 use native.Mathlib.Omega.{arith}
 use Rattle.ms622424_places.proofs.Places.{few}
@@ -6,6 +9,7 @@ use borrow.Author.Needs.{needs}
 use Rattle.ms622424_transfer.proofs.transfer.Statement.{statement}
 use Rattle.ms622424_transfer.proofs.transfer.Tie as tie
 
+-- no more wait than there are places
 small : (c : tie.Start) → c .args .s .fifo .waiting < 65
 small c = few (c .args .s .fifo) (c .args .queue .now) (c .pre .right)
 

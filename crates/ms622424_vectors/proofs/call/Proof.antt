@@ -1,3 +1,5 @@
+-- It promises nothing: it is safe and ends. The two tests keep the lent parts inside; a part of the first n has n
+-- elements, where there are so many (`length-take`), and comes back as long.
 use native.Mathlib.Omega.{arith}
 use lib.ListN.{length-take}
 use borrow.Author.Needs.{needs}

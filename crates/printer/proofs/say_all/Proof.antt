@@ -1,3 +1,5 @@
+-- It promises nothing: it is safe, and ends by the bytes left. The invariant keeps i within the bytes, and the
+-- buffer's length, which a lent buffer has to have at the return. `put` asks nothing of `at`.
 use Prim.Native.Nat.{_≤_, _-_}
 use mathlib.Core.Path.{_≡_, refl}
 use lib.ListN.{length}

@@ -1,3 +1,5 @@
+-- It promises nothing: it is safe, and ends after 16 turns; the invariant only says where i is. `room` promises that
+-- 16 bytes fit from `at` on, which keeps each write inside the buffer.
 use Prim.Native.Nat.{_≤_, _-_}
 use borrow.Author.Needs.{needs}
 use Rattle.printer.proofs.say_text.Statement.{statement}

@@ -1,3 +1,5 @@
+-- Three writes from 3 * (index % 1,024) on, which is `put`, opened. They stay inside, since the table has 3,072
+-- numbers and a write keeps their count (`length-set`).
 use mathlib.Core.Path.{refl}
 use native.Mathlib.Omega.{arith}
 use lib.ListN.{length-set}

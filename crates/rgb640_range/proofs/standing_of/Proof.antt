@@ -1,3 +1,5 @@
+-- Two rows, refusals 1 and 9: `refusal-is` where a row is due and none before it, `refusal-none` where neither is.
+-- The length is the code's own test; the ranges are what `in_range` promises, under a `!` (`not-true`, `not-false`).
 use mathlib.Core.Path.{refl, sym, _∙_}
 use mathlib.Core.List.{[], _∷_}
 use borrow.Author.Tests.{not-true, not-false}

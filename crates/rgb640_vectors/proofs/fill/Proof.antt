@@ -1,3 +1,5 @@
+-- It promises nothing: it is safe and ends. No invariant: in each turn the test says that i is below 3,072, which
+-- keeps the write inside and makes 4i + 1 fit 16 bits.
 use borrow.Author.Needs.{needs}
 use Prim.Native.Nat.{_-_}
 use Rattle.rgb640_vectors.proofs.fill.Statement.{statement}

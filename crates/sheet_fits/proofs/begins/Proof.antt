@@ -1,3 +1,6 @@
+-- The invariant: the text is no shorter than the word, and what is left of them from i on decides. A turn is
+-- `starts-on`. It ends by a shorter text (`starts-short`), a byte that differs (`starts-differ`), or the word's end
+-- (`starts-all`).
 use Prim.Native.Nat.{_≤_, _-_}
 use mathlib.Core.Path.{_≡_}
 use lib.ListN.{length, drop}

@@ -1,3 +1,5 @@
+-- The invariant: the buffer is the lent one with the first i bytes of the word in their places (`paste`), and as
+-- long. A turn is `paste-on`, and all of them are the word written (`paste-all`).
 use Prim.Native.Nat.{_-_, _≤_}
 use mathlib.Core.Path.{_≡_}
 use lib.ListN.{length}

@@ -1,3 +1,5 @@
+-- The invariant: the text from key k on is left to write, it fits, and with it the buffer is as promised (`Going`). A
+-- turn writes one line, which fits too (`line-fits`, `next-line`). After the last key nothing is left (`last-line`).
 use Prim.Native.Nat.{_-_, _≤_}
 use Rattle.hd153108.specs.Hd153108.{chip}
 use Rattle.sheet.specs.Sheet.{keys, textOf}

@@ -1,3 +1,5 @@
+-- The invariant: what is left of the table from i on decides. A turn is `over-on`. It ends by a byte over 15
+-- (`over-here`) or nothing left (`none-over`).
 use Prim.Native.Nat.{_-_, _≤_}
 use mathlib.Core.Path.{_≡_}
 use lib.ListN.{length, drop}

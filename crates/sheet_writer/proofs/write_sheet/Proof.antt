@@ -1,3 +1,6 @@
+-- Five returns, each by its law of sheet_written's `Ends`, which takes the promise and the outcome of every test so
+-- far. `write_lines` asks a chip that can be written: all tests but that of the buffer give it (`takes-it`). d is the
+-- point right after the search of the colours, b the one after that of the overlays.
 use Rattle.sheet_written.proofs.Ends.{takes-it, refused-standing, refused-colours, refused-overlays}
 use Rattle.sheet_written.proofs.Ends.{refused-short, done}
 use borrow.Author.Needs.{needs}

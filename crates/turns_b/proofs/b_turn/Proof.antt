@@ -1,3 +1,6 @@
+-- Each return has two parts. `arms`: the call that was matched (`at-call`), and how its outcome is told (`took-..`).
+-- `bytes`: a chip that is left as it was has the same bytes. The reset is lent no map and promises it for any
+-- (`reset-done`, `reset-same`); `look` and `own` promise both parts themselves.
 use Rattle.ms622424_places.proofs.Determined.{same-self}
 use Rattle.turns.proofs.Told.{took-bad, took-valued, took-moved}
 use Rattle.turns_b.proofs.Arms.{at-call, same-chip, reset-done, turn-same, reset-same}

@@ -1,3 +1,6 @@
+-- It promises nothing: it is safe, and ends since k goes up to `k-end`. The invariant keeps that `k-end` is at most
+-- 765, which `count` promises and `datum` asks of k, and the lengths of queue and map, which they have to have at the
+-- return.
 use borrow.Author.Needs.{needs}
 use Prim.Native.Nat.{_-_, _≤_}
 use mathlib.Core.Path.{_≡_}
