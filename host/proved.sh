@@ -70,7 +70,7 @@ sum_of() {
     {
         printf '%s\n' "$kit_is" "$lines"
         sed 's|\(.*\):.*|crates/\1/src\ncrates/\1/specs\ncrates/\1/proofs|' <<<"$lines" |
-            xargs sh -c 'find "$@" -type f 2>/dev/null' sh | LC_ALL=C sort | xargs sha256sum
+            xargs sh -c 'find "$@" -type f 2>/dev/null || true' sh | LC_ALL=C sort | xargs sha256sum
     } | sha256sum
 }
 

@@ -59,7 +59,8 @@ static void step_a(zk_a_chip *chip, zk_a_chip *plain) {
 static zk_a_chip some_chip_a(void) {
     zk_a_chip chip;
     chip.state = good_a();
-    if (below(4) == 0) chip.state.pointer = 3;
+    if (below(8) == 0) chip.state.pointer = 3;
+    if (below(8) == 0) chip.state.clock.position = (uint8_t)period(chip.state.clock.timing);
     for (unsigned i = 0; i < ZK_A_COLOURS; i++) chip.colours[i] = (uint8_t)below(16);
     for (unsigned i = 0; i < ZK_A_OVERLAYS; i++) chip.overlays[i] = (uint8_t)below(16);
     return chip;

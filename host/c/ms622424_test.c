@@ -106,24 +106,23 @@ static int some_waiting(void) {
     return below(2) ? edges[below(12)] : (int)below(65);
 }
 
-/* one thing put out of its range, of each kind in turn */
-enum { SPOILT = 13 };
-static zk_b_state spoilt(zk_b_state s, int kind) {
+/* one thing put out of its range, of each kind in turn: just over the edge, or any way */
+enum { SPOILT = 11 };
+static zk_b_state spoilt(zk_b_state s, int kind, int edge) {
     int w = s.fifo.waiting;
+#define OVER(least, all) ((least) + (edge ? 0 : below((all) - (least))))
     switch (kind) {
-    case 0: s.port.address = (uint16_t)(8192 + below(65536 - 8192)); break;
-    case 1: s.port.counter = (uint8_t)(3 + below(253)); break;
-    case 2: s.control.command = (uint8_t)(32 + below(224)); break;
-    case 3: s.control.readmode = (uint8_t)(2 + below(254)); break;
-    case 4: s.ident.revision = (uint8_t)(8 + below(248)); break;
-    case 5: s.ident.board = (uint8_t)(16 + below(240)); break;
-    case 6: s.fifo.waiting = (uint8_t)(65 + below(191)); break;
-    case 7: s.port.address = 8192; break;
-    case 8: if (w > 0) put_place((int)below((uint32_t)w), (uint64_t)8192 << 24 | below(1 << 24)); break;
-    case 9: if (w > 0) put_place(w - 1, random_bits() | (uint64_t)1 << (37 + below(27))); break;
-    case 10: if (w < 64) put_place(w, 1); break;
-    case 11: if (w < 64) put_place(63, random_bits() | 1); break;
-    default: s.fifo.waiting = 65; break;
+    case 0: s.port.address = (uint16_t)OVER(8192, 65536); break;
+    case 1: s.port.counter = (uint8_t)OVER(3, 256); break;
+    case 2: s.control.command = (uint8_t)OVER(32, 256); break;
+    case 3: s.control.readmode = (uint8_t)OVER(2, 256); break;
+    case 4: s.ident.revision = (uint8_t)OVER(8, 256); break;
+    case 5: s.ident.board = (uint8_t)OVER(16, 256); break;
+    case 6: s.fifo.waiting = (uint8_t)OVER(65, 256); break;
+    case 7: if (w > 0) put_place((int)below((uint32_t)w), (uint64_t)OVER(8192, 65536) << 24 | below(1 << 24)); break;
+    case 8: if (w > 0) put_place(w - 1, (edge ? 0 : random_bits()) | (uint64_t)1 << OVER(37, 64)); break;
+    case 9: if (w < 64) put_place(w, 1); break;
+    default: if (w < 64) put_place(63, (edge ? 0 : random_bits()) | 1); break;
     }
     return s;
 }
@@ -184,7 +183,7 @@ static void random_good_states(void) {
 }
 
 static void bad_states_of_every_kind(void) {
-    for (int i = 0; i < 6500; i++) try_all(spoilt(good_state(some_waiting()), i % SPOILT));
+    for (int i = 0; i < 6500; i++) try_all(spoilt(good_state(some_waiting()), i % SPOILT, i % 2));
 }
 
 static void every_waiting_and_slots(void) {
@@ -206,7 +205,7 @@ static void wrong_lengths(void) {
             lend(queue_sizes[i], map_sizes[j]);
             for (int n = 0; n < 200; n++) {
                 zk_b_state s = good_state(some_waiting());
-                try_all(n % 4 == 3 ? spoilt(s, n % SPOILT) : s);
+                try_all(n % 4 == 3 ? spoilt(s, n % SPOILT, (int)below(2)) : s);
             }
         }
 }
@@ -418,7 +417,7 @@ static void refused_accesses(zk_b_state s, int refusal, int kind) {
     }
 }
 
-/* 1, then 9, for the state and for arguments, then what the access brings */
+/* 1, then 9, for the state, just over each edge, and for arguments, then what the access brings */
 static void the_order_of_refusals(void) {
     static const uint32_t at[8] = {0, 8, 0x10000, 0x15fff, 9, 0xffff, 0x16000, UINT32_MAX};
     for (int n = 0; n < 16; n++) {
@@ -427,7 +426,7 @@ static void the_order_of_refusals(void) {
             int length = n < 15 ? 1 : 0, range = kind >= 0 ? 9 : 0, first = length ? length : range;
             int queue_alone = n / 4 < 3 ? 1 : 0, ident = kind == 4 || kind == 5 ? 9 : 0;
             zk_b_state s = good_state(33); /* some wait and some places are unused: each kind spoils it */
-            if (kind >= 0) s = spoilt(s, kind);
+            if (kind >= 0) s = spoilt(s, kind, 1);
             refused_accesses(s, first, kind);
             for (int k = 0; k < 8; k++)
                 try_look(s, at[k]), check_refusal(&looks, at[k], kind, first || k < 4 ? first : 3);
