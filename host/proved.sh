@@ -4,6 +4,7 @@
 #   kit_check         fails, saying what is missing, before anything starts
 #   program NAME      target/bin/NAME, proved and built unless that is done; kit_run is then the words before it
 #   library           target/host/libzikombaru.a, every exported call of the proved crates in one archive
+#   everything        both programs and the library, so that the tests behind it say nothing of building
 #
 # What is built is kept with a sum over the kit and every file that it is built from (target/built), and is built again
 # when that sum is another. Of two commands that start together one builds, and the other waits: crates.txt is locked.
@@ -159,4 +160,8 @@ library() {
 
 program() {
     once "target/bin/$1" make_program "$1"
+}
+
+everything() {
+    kit_check && program loadlist && program replay && library
 }
