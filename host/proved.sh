@@ -6,8 +6,8 @@
 #   library           target/host/libzikombaru.a, every exported call of the proved crates in one archive
 #   everything        both programs and the library, so that the tests behind it say nothing of building
 #
-# What is built is kept with a sum over the kit and every file that it is built from (target/built), and is built again
-# when that sum is another. Of two commands that start together one builds, and the other waits: crates.txt is locked.
+# Of what is built a sum is kept, over the kit, every file that it is built from, and itself (target/built); it is built
+# again when that sum is another. Of two commands that start together one builds, and the other waits: crates.txt is locked.
 kit_made_with='rattle-kit-5b logic 064da1ca440f63e7'
 
 say() { printf '%s: %s\n' "$who" "$*" >&2; }
@@ -75,12 +75,21 @@ sum_of() {
     } | sha256sum
 }
 
-# is_built FILE CRATE..: FILE is there, made from these crates as they are
+# is_built FILE CRATE..: FILE is there as it was kept, made from these crates as they are
 is_built() {
     local file=$1
     shift
-    [ -f "$file" ] && [ "$(sum_of "$@")" = "$(cat "target/built/$(basename "$file")" 2>/dev/null)" ]
+    [ -f "$file" ] && [ "$(sum_of "$@" && sha256sum <"$file")" = "$(cat "target/built/${file##*/}" 2>/dev/null)" ]
 }
+
+# is_lost FILE: it is not there, or it is another than was kept
+is_lost() {
+    [ ! -f "$1" ] || { [ -f "target/built/${1##*/}" ] &&
+        [ "$(sha256sum <"$1")" != "$(tail -n 1 "target/built/${1##*/}")" ]; }
+}
+
+# kept FILE SUM: notes that FILE was made from what has this sum
+kept() { [ -f "$1" ] && { echo "$2" && sha256sum <"$1"; } >"target/built/${1##*/}"; }
 
 # once FILE MAKER CRATE..: FILE, made by MAKER CRATE.. unless it is built; one at a time
 once() {
@@ -93,8 +102,7 @@ once() {
         flock -n 9 || { say "another command is proving here: waiting for it" && flock 9; }
         is_built "$file" "$@" && exit
         sum=$(sum_of "$@")
-        rm -f "target/built/$(basename "$file")"
-        "$maker" "$@" 9<&- && echo "$sum" >"target/built/$(basename "$file")"
+        "$maker" "$@" 9<&- && kept "$file" "$sum"
     )
 }
 
@@ -111,11 +119,13 @@ rt_for() {
 
 # check_shown NAME ALL CRATE..: proves the crates and what they rest on; each is shown when it is proved, of ALL
 check_shown() {
-    local name=$1 all=$2
+    local name=$1 all=$2 n=0 line
     shift 2
-    rt_for "$name" rt check "$@" | awk -v who="$who" -v all="$all" '
-        /^rt: [a-z0-9_]+ (NOT )?(proved|PROVED)/ { n++ }
-        /^rt: [a-z0-9_]+ proved \([0-9]+ s\)/ { print who ": proved " n " of " all ": " $2 " " $4 " " $5; fflush() }' >&2
+    rt_for "$name" rt check "$@" | while IFS= read -r line; do # not awk: some hold a pipe's lines back
+        [[ $line =~ ^rt:\ ([a-z0-9_]+)\ (NOT\ PROVED|proved)(\ \([0-9]+\ s\))? ]] || continue
+        n=$((n + 1))
+        [ -z "${BASH_REMATCH[3]}" ] || say "proved $n of $all: ${BASH_REMATCH[1]}${BASH_REMATCH[3]}"
+    done
     return "${PIPESTATUS[0]}"
 }
 
@@ -129,6 +139,7 @@ make_program() {
     local all
     all=$(reached "$1" | wc -l)
     takes "$1" "$all" 4
+    ! is_lost "target/bin/$1" || rm -f "target/stamp/$1" # rt makes no program of a crate that it has as proved
     check_shown "$1" "$all" "$1"
 }
 
@@ -147,7 +158,7 @@ make_library() {
         script+="addlib target/staticlib/lib$crate.a"$'\n'
         is_built "target/staticlib/lib$crate.a" "$crate" && continue
         rt_for "lib$crate" rt staticlib "$crate" >/dev/null || return
-        sum_of "$crate" >"target/built/lib$crate.a"
+        kept "target/staticlib/lib$crate.a" "$(sum_of "$crate")"
         say "proved $n of $all: $crate"
     done
     mkdir -p target/host
