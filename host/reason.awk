@@ -1,10 +1,10 @@
-# Why a line of a sheet is refused, in words. Input: the sheet's bytes, as 'od -An -v -tu1' prints them, and the number of
-# the line that the proved reader named (-v at=N). It decides nothing: where the sheet is refused is the reader's word,
-# and this looks at that line and at the key before it. docs/formats/sheet.md lists the reasons.
+# Why a line of a sheet is refused, in words. Input: the sheet's bytes, as 'od -An -v -tu1' prints them, and the number
+# of the line that the proved reader named (-v at=N). It decides nothing: where the sheet is refused is the reader's
+# word, and this looks at that line and at the key before it. docs/formats/sheet.md lists the reasons.
 BEGIN {
     digits = "0123456789abcdef"
     first = split("chip readmask blinkmask overlay timing", required, " ")
-    last_place = 265
+    lines = 265
     upper = "upper case; keys and digits are lower case"
     line = 1
 }
@@ -73,19 +73,22 @@ function why(    s, key) {
     if (bytes == 0) return "the sheet is empty; it begins with chip=153108"
     if (at == 1 && mark == "239 187") return "a byte-order mark at the start; save the sheet as plain text without one"
     if (at == 1 && (mark == "254 255" || mark == "255 254")) {
-        return "16-bit text; save the sheet as plain text, a byte a character"
+        return "text of 16 or 32 bits a character; save the sheet as plain text, a byte a character"
     }
     if (line < at || (text == "" && !ended)) return "the sheet ends before this line; " missing()
     if (strange == 9) return "a tab; a line has none"
-    if (strange != "") return "not text; byte " strange " is no character of a sheet"
-    if (last == 13) return "CR LF at the line's end; save the sheet with LF alone, as Unix has it"
+    if (strange != "") return "not text; byte " strange " is no character of a sheet; save the sheet as plain text"
+    if (last == 13) {
+        return (ended ? "CR LF at the line's" : "a CR and no newline at the sheet's") " end; save the sheet with LF alone"
+    }
     if (text == "") return "a blank line; take it out"
-    if (at > first && place(before) == last_place) return "too long; nothing stands behind cff="
+    if (at > lines) return "too long; a sheet has at most " lines " lines"
     if (bytes > 4096 && !ended) return "too long; a sheet has at most 2,134 bytes, and no more than 4,096 are read"
     if (text ~ /^[#;\/]/) return "a comment; a sheet has none"
     if (text ~ /[A-Z]/ && fits(tolower(text))) return upper
     key = key_of(text)
-    if (key == "") return "no '='; a line is key=value"
+    if (!index(text, "=")) return "no '='; a line is key=value"
+    if (key == "") return "no key before the '='; a line is key=value"
     if (text ~ / /) return "a space; a line has none"
     s = wrong_key(key)
     if (s != "") return s
@@ -105,18 +108,18 @@ function is_here(key) { return at <= first ? place(key) == at : place(key) > fir
 function wrong_key(key) {
     if (is_here(key)) return ""
     if (place(tolower(key)) && !place(key)) return upper
-    if (at <= first && place(key) > at) return "a missing key; " required[at] "= stands here"
-    if (at <= first) return "a wrong key; " required[at] "= stands here"
-    if (place(key) == 0) return "a wrong key; o0= to o3= and c00= to cff= stand here"
-    if (place(key) == place(before)) return "a key twice; each stands once"
-    return "a key out of order; behind " before "= stand later ones alone, o0= to o3= before c00= to cff="
+    if (place(key) && place(key) == place(before)) return "a key twice; each stands once"
+    if (at <= first && place(key) > at) return "a missing key; " required[at] "= belongs here"
+    if (at <= first) return "a wrong key; " required[at] "= belongs here"
+    if (place(key) == 0) return "a wrong key; o0= to o3= and c00= to cff= belong here"
+    return "a key out of order; o0= to o3= come first, then c00= to cff=, each rising"
 }
 function wrong_value(key, value) {
     if (reserved(key, value) && is_value(key, value)) return "a reserved bit; bits 7, 5 and 4 of overlay= are zero"
     if (is_value(key, value)) return ""
-    if (key == "chip") return "another chip; " wanted(key)
+    if (key == "chip") return "another chip; " wanted(key) ", these digits alone"
     if (value ~ /[A-Z]/ && is_value(key, tolower(value))) return upper
     if (length(value) > (place(key) <= first ? 2 : 3)) return "too long; " wanted(key)
     if (length(value) < (place(key) <= first ? 2 : 3)) return "too short; " wanted(key)
-    return "no hex digits; " wanted(key) ", 0 to 9 and a to f"
+    return "not all hex digits; " wanted(key) ", 0 to 9 and a to f"
 }
