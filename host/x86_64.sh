@@ -18,11 +18,13 @@ host_missing() {
         x86_64.c) command -v gcc >/dev/null || echo gcc ;;
         *.cpp) command -v g++ >/dev/null || echo g++ ;;
         x86_64.rust) command -v cargo >/dev/null || echo cargo ;;
-        *.c) cross_missing gcc-x86-64-linux-gnu libc6-dev-amd64-cross ;;
+        *.c) cross_compiles || printf '%s\n' gcc-x86-64-linux-gnu libc6-dev-amd64-cross ;;
         *.rust) cross_missing rustc cargo libstd-rust-dev:amd64 qemu-user ;;
         esac
     done
 }
+
+cross_compiles() { x86_64-linux-gnu-gcc -E -x c - <<<'#include <stdio.h>' >/dev/null 2>&1; }
 
 cross_missing() {
     local name

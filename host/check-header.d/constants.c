@@ -1,5 +1,5 @@
-/* The headers' constants hold among themselves: each CHECK that does not hold is printed, and the status is 1. Built
- * and run by host/check-header, without the library. */
+/* The headers' constants are the pages' (numbers.h), and hold among themselves: each CHECK that does not hold is
+ * printed, and the status is 1. Built and run by host/check-header, without the library. */
 #include <zikombaru.h>
 
 #include <stdio.h>
@@ -13,6 +13,11 @@ static void check(int holds, const char *what) {
     if (!holds) printf("does not hold: %s\n", what);
 }
 #define CHECK(holds) check(holds, #holds)
+
+static void numbers(void) {
+#define NUMBER(name, number) check((name) == (number), #name " == " #number);
+#include "numbers.h"
+}
 
 static void version(void) {
     char text[32];
@@ -48,11 +53,11 @@ static void bits(void) {
 
 /* tables, places of a look and spaces: as long as they are said to be, and none reaches into the next */
 static void sizes(void) {
-    CHECK(sizeof((zk_a_chip *)0)->colours == ZK_A_COLOURS && ZK_A_COLOURS == 768);
-    CHECK(sizeof((zk_a_chip *)0)->overlays == ZK_A_OVERLAYS && ZK_A_OVERLAYS == 12);
-    CHECK(sizeof((zk_b_chip *)0)->queue == ZK_B_PLACES * sizeof(uint64_t) && ZK_B_PLACES == 64);
-    CHECK(sizeof((zk_b_chip *)0)->map == ZK_B_MAP && ZK_B_MAP == 24576);
-    CHECK(sizeof((zk_c_chip *)0)->table == ZK_C_TABLE * sizeof(uint16_t) && ZK_C_TABLE == 3072);
+    CHECK(sizeof((zk_a_chip *)0)->colours == ZK_A_COLOURS);
+    CHECK(sizeof((zk_a_chip *)0)->overlays == ZK_A_OVERLAYS);
+    CHECK(sizeof((zk_b_chip *)0)->queue == ZK_B_PLACES * sizeof(uint64_t));
+    CHECK(sizeof((zk_b_chip *)0)->map == ZK_B_MAP);
+    CHECK(sizeof((zk_c_chip *)0)->table == ZK_C_TABLE * sizeof(uint16_t));
     CHECK(ZK_A_LOOK_POSITION < ZK_A_LOOK_OVERLAYS && ZK_A_LOOK_OVERLAYS + ZK_A_OVERLAYS <= ZK_A_LOOK_COLOURS);
     CHECK(ZK_B_LOOK_WAITING < ZK_B_LOOK_MAP && ZK_C_LOOK_UPDATE < ZK_C_LOOK_TABLE);
     CHECK(ZK_C_INDEX_UPDATE < ZK_C_INDEX_WRITE && ZK_C_INDEX_WRITE + ZK_C_ENTRIES <= ZK_C_INDEX_READ);
@@ -71,6 +76,7 @@ static void sheet(void) {
 }
 
 int main(void) {
+    numbers();
     version();
     refusals();
     bits();

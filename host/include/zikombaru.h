@@ -20,9 +20,13 @@
  *  - Refusals are the numbers of zk_refusal_number, 0 for none; zk_refusal_text has them in words. A refused call
  *    changes no lent byte, hands a state back as it was given, and answers 0 for every value and count; a malformed
  *    sheet's refusal also tells the line. Where two are due, the one that is tried first is given.
- *  - States are plain structs that the caller owns, with each field's range beside it; a call that is handed one
- *    outside its ranges is ZK_OUT_OF_RANGE. They go in by value, and the state after the call comes back in the answer
- *    of each call that may change it: drop the answer, and the call was not made.
+ *  - States are plain structs that the caller owns, with each field's range beside it. They go in by value, and a call
+ *    that is handed one outside its ranges is ZK_OUT_OF_RANGE. Five differ: zk_a_reset and zk_c_reset take any state,
+ *    zk_b_reset reads its ident alone, zk_a_step and zk_a_tick have the clock alone, and the clock of zk_a_tick is
+ *    lent and changed in place.
+ *  - Keep the state of every answer. It comes back from each call that may change it. Lent tables are changed in
+ *    place, so that a state from before the call no longer fits them: chip B refuses the two in its next call, or
+ *    moves entries that are not there (examples/lent.c).
  *  - Chips. Who does not want to keep state and tables apart takes a zk_a_chip, zk_b_chip or zk_c_chip, which holds
  *    both, and the calls named after it (zk_a_chip_write and so on): the same calls, that keep the state in the chip.
  *  - Answers. The expanders and the calls on sheets answer one number of 64 bits: zk_refusal, zk_value, zk_count,

@@ -1,8 +1,8 @@
 /* zikombaru_hd153108.h: chip A, the HD153108: 256 colours and 4 overlays of three components, 4 bits each. The
  * conventions of zikombaru.h hold.
  *
- * Data sheet 003 decides: Tables 1.1 to 3 the accesses, Table 4 the pixel, Tables 5.1 and 5.2 the blinking. Not
- * modelled: the converters, BLANK, the dot clock and bus timing.
+ * Hitachi's data sheet of the HD153108 (003) decides: Tables 1.1 to 3 the accesses, Table 4 the pixel, Tables 5.1 and
+ * 5.2 the blinking. Not modelled: the converters, BLANK, the dot clock and bus timing.
  *
  * WHAT AN ACCESS DOES. The pointer says which component of the entry at the address is next. One pointer, one address
  * and one pair of latches serve both tables.

@@ -1,8 +1,9 @@
 /* zikombaru_ms622424.h: chip B, the MS622424: 8,192 colours of 24 bits behind a queue of 64 waiting writes, the data
  * sheet's Write FIFO. The conventions of zikombaru.h hold.
  *
- * Data sheet 004 decides: the truth table the accesses, the internal registers their bits, the pin descriptions pixel,
- * blanking and reset. Not modelled: clocks, pipeline delay, bus timing, the held colour at the outputs.
+ * Mosel Vitelic's data sheet of the MS622424 (004) decides: the truth table the accesses, the internal registers their
+ * bits, the pin descriptions pixel, blanking and reset. Not modelled: clocks, pipeline delay, bus timing, the held
+ * colour at the outputs.
  *
  * WHAT AN ACCESS DOES. The counter says which component of the entry at the address is next.
  *
@@ -12,12 +13,16 @@
  *  1 ADDRESS_HIGH     its high 5 bits, of the byte's low  answers these bits; moves nothing
  *                     five; the counter becomes 0
  *  2 PALETTE          a component for the queue, below    a component of the map, in read mode alone, below
- *  3 COMMAND          sets it; bits 5 to 7 are dropped    answers it; moves nothing
+ *  3 COMMAND          sets it; bits 5 to 7 are dropped;   answers it; moves nothing
+ *                     moves nothing else
  *  4 STATUS           refused                             answers it, below; moves nothing
  *  5 BUFFER           refused                             counter 0: the kept red, and the counter becomes 1;
  *                                                         1: the kept green, and the counter STAYS 1; 2: refused
  *  6 REVISION         refused                             16 * board number + revision; moves nothing
- *  7 READMODE         read mode on, whatever the byte     READ MODE OFF; answers 0
+ *  7 READMODE         read mode on, whatever the byte;    READ MODE OFF; answers 0; moves nothing else
+ *                     moves nothing else: THE COUNTER
+ *                     STAYS, and entered halfway, after
+ *                     a red, the first read is green
  *
  * A write to the palette keeps red and green in the Color Buffer Register and moves the counter to 1, to 2; blue puts
  * the address with all three at the queue's end, sets the counter to 0 and steps the address, modulo 8,192. The map

@@ -1,8 +1,8 @@
 /* zikombaru_rgb640.h: chip C, the palette port of the RGB640: 1,024 colours of three components, ten bits each. The
  * conventions of zikombaru.h hold.
  *
- * Data sheet 001 decides: sections 9.1, 9.3, 9.4.1, 9.6 and 10.15. Not modelled: the chip's other ports and indexes,
- * its cursor, windows and YUV, the palette by ten bits, clocks and bus timing.
+ * IBM's data sheet of the RGB640 (001) decides: sections 9.1, 9.3, 9.4.1, 9.6 and 10.15. Not modelled: the chip's
+ * other ports and indexes, its cursor, windows and YUV, the palette by ten bits, clocks and bus timing.
  *
  * WHAT AN ACCESS DOES. The place in the order says which component of a colour is next.
  *
