@@ -7,7 +7,8 @@
 #   everything        both programs and the library, so that the tests behind it say nothing of building
 #
 # Of what is built a sum is kept, over the kit, every file that it is built from, and itself (target/built); it is built
-# again when that sum is another. Of two commands that start together one builds, and the other waits: crates.txt is locked.
+# again when that sum is another. Of two commands that start together one builds, and the other waits: crates.txt is
+# locked.
 kit_made_with='rattle-kit-5b logic 064da1ca440f63e7'
 
 say() { printf '%s: %s\n' "$who" "$*" >&2; }
@@ -16,7 +17,8 @@ kit_check() {
     local name missing=()
     for name in awk find flock sha256sum xargs; do command -v "$name" >/dev/null || missing+=("$name"); done
     if [ ${#missing[@]} -gt 0 ]; then
-        say "needs ${missing[*]}, which this machine has not: install them (Debian: findutils, util-linux, coreutils, mawk)"
+        say "needs ${missing[*]}, which this machine has not: install them (Debian has them in findutils, util-linux," \
+            "coreutils, mawk)"
         return 1
     fi
     if ! command -v rt >/dev/null; then
@@ -131,8 +133,9 @@ check_shown() {
 
 # takes NAME ALL SECONDS: says what begins, and how long it takes where nothing of it is done yet
 takes() {
-    local minutes=$((($2 * $3 + 59) / 60))
-    say "proving and building $1, from $2 crates, this once: up to $minutes minute$([ $minutes -eq 1 ] || echo s) on two cores"
+    local minutes=$((($2 * $3 + 59) / 60)) many=s
+    [ $minutes -gt 1 ] || many=''
+    say "proving and building $1, from $2 crates, this once: up to $minutes minute$many on two cores"
 }
 
 make_program() {

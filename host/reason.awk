@@ -6,6 +6,7 @@ BEGIN {
     first = split("chip readmask blinkmask overlay timing", required, " ")
     lines = 265
     upper = "upper case; keys and digits are lower case"
+    unix = " end; save the sheet with LF alone"
     line = 1
 }
 { for (i = 1; i <= NF; i++) take($i + 0) }
@@ -78,9 +79,7 @@ function why(    s, key) {
     if (line < at || (text == "" && !ended)) return "the sheet ends before this line; " missing()
     if (strange == 9) return "a tab; a line has none"
     if (strange != "") return "not text; byte " strange " is no character of a sheet; save the sheet as plain text"
-    if (last == 13) {
-        return (ended ? "CR LF at the line's" : "a CR and no newline at the sheet's") " end; save the sheet with LF alone"
-    }
+    if (last == 13) return (ended ? "CR LF at the line's" : "a CR and no newline at the sheet's") unix
     if (text == "") return "a blank line; take it out"
     if (at > lines) return "too long; a sheet has at most " lines " lines"
     if (bytes > 4096 && !ended) return "too long; a sheet has at most 2,134 bytes, and no more than 4,096 are read"

@@ -1,5 +1,5 @@
-# Sourced by the host tests that are scripts: each test is told once, and counted. `told` prints the last line, 'N passed,
-# M failed', and fails where a test did, or where there was none.
+# Sourced by the host tests that are scripts: each test is told once, and counted. `told` prints the last line, 'N
+# passed, M failed', and fails where a test did, or where there was none.
 passed=0 failed=0
 
 tell() { # tell NAME STATUS: a status of 0 has passed

@@ -5,9 +5,9 @@
 # are. On another (Arm) Debian's cross compilers make them, and the kit's emulator runs them; Rust's programs, on which
 # that one breaks off, run under Debian's. Nothing is installed here: host/packages does that.
 #
-# Sets: host_cc, host_run (words before a program, with the kit's loader and C library), host_bare (words before one that
-# is linked statically), host_rust (words before one of Rust's), host_cargo (an array), host_target (cargo's folder),
-# host_sanitize (gcc's checks that run here).
+# Sets: host_cc, host_run (words before a program, with the kit's loader and C library), host_bare (words before one
+# that is linked statically), host_rust (words before one of Rust's), host_cargo (an array), host_target (cargo's
+# folder), host_sanitize (gcc's checks that run here).
 . host/proved.sh
 
 # host_missing c|cpp|rust..: Debian's packages for these that are not there
