@@ -1,28 +1,19 @@
-// The component expanders by constant tables: 6 or 8 bits to ten.
+// The component expanders: 8 bits to ten by a constant table, 6 bits by the formula.
 //
-// Source document 001, Tables 23 to 25, and document 01, "Chip C", decide; the answers are `expansion` of expand's
-// specs/Expand.antt. Not modelled: as in expand.
-mod tables;
+// Source document 001, Tables 23 to 25, document 01, "Chip C", and document 02, P2 (no table at 6 bits), decide; the
+// answers are `expansion` of expand's specs/Expand.antt. Not modelled: as in expand.
+mod table;
 
 ghost use mathlib.Core.Path.{_≡_};
-ghost use Prim.Native.Nat.{_<_};
 ghost use Rattle.expand.specs.Expand.{ten, expansion, meaning};
 use expand::Expanded;
-use tables::EIGHT;
-use tables::SIX;
+use table::EIGHT;
 
-// The tables' entries.
+// The table's entries.
 fn eight_listed(v: u8) -> u16
     ensures { λ r. ⌜ r ≡ ten 8 v ⌝ }
 {
     EIGHT[v as usize]
-}
-
-fn six_listed(v: u8) -> u16
-    requires { ⌜ v < 64 ⌝ }
-    ensures { λ r. ⌜ r ≡ ten 6 v ⌝ }
-{
-    SIX[v as usize]
 }
 
 // A component of 8 bits as ten.
@@ -42,5 +33,6 @@ pub fn expand6(v: u32) -> Expanded
     if 64 <= v {
         return Expanded::Refused;
     }
-    Expanded::Ten(six_listed(v as u8))
+    let w = v as u16;
+    Expanded::Ten(16 * w + w / 4)
 }
