@@ -1,1 +1,3 @@
+pub mod Filled
 pub mod Width
+pub mod Rules

@@ -1,7 +1,7 @@
-// The component expanders for C: the answer in one number.
+// The component expander for C: the answer in one number.
 //
-// Document 01, "Chip C", decides; the answers are `expansion` of expand's specs/Expand.antt, as the vocabulary tells
-// them. Not modelled: as in expand.
+// Document 02, P4, decides; the answers are `expansion` of expand's specs/Expand.antt, as the vocabulary tells them.
+// Not modelled: as in expand.
 ghost use mathlib.Core.Path.{_≡_};
 ghost use Rattle.vocabulary.specs.Reply.{decoded, telling};
 ghost use Rattle.expand.specs.Expand.{expansion, meaning};
@@ -18,15 +18,8 @@ fn told(e: Expanded) -> u64
 }
 
 #[no_mangle]
-pub extern "C" fn zk_expand8(v: u32) -> u64
-    ensures { λ r. ⌜ decoded r ≡ telling (expansion 8 v) ⌝ }
+pub extern "C" fn zk_expand(width: u32, v: u32) -> u64
+    ensures { λ r. ⌜ decoded r ≡ telling (expansion width v) ⌝ }
 {
-    told(expand_tables::expand8(v))
-}
-
-#[no_mangle]
-pub extern "C" fn zk_expand6(v: u32) -> u64
-    ensures { λ r. ⌜ decoded r ≡ telling (expansion 6 v) ⌝ }
-{
-    told(expand_tables::expand6(v))
+    told(expand_widths::expand(width, v))
 }

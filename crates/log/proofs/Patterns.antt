@@ -6,7 +6,7 @@ use mathlib.Core.List.{List, [], _∷_}
 use native.Mathlib.Omega.{arith}
 use lib.ListN.{length}
 use lib.Dec.{ltb}
-use borrow.Author.Tests.{ltb-true, lt-ltb, le-ltb, eq-eqb, ne-eqb}
+use borrow.Author.Tests.{ltb-true, lt-ltb, le-ltb}
 use Rattle.vocabulary.proofs.Choice.{picks-first, picks-second}
 use Rattle.vocabulary.proofs.Range.{both}
 use Rattle.log_pattern.specs.Pattern.{fits}
@@ -16,23 +16,9 @@ use Rattle.log.specs.declared.Line.the-variants.{To, Expand, Bad}
 use Rattle.log.specs.declared.Call.the-variants.{Write, Read, Look, OfA, OfB}
 use Rattle.log.specs.declared.CallA.the-variants.{Pixel as PixelA}
 use Rattle.log.specs.declared.CallB.the-variants.{Pixel as PixelB, Blank, Sync}
-use Rattle.log.specs.Log.{expands, shows, Form, said, lineOf}
+use Rattle.log.specs.Log.{shows, Form, said, lineOf}
 
--- the widths that the expander has, and the enables that chip A has
-module _ (w v : ℕ) where
-  pub expands-six : w ≡ 6 → Expand w v ≡ expands w v
-  unfolding expands
-  expands-six e = sym (picks-first _ _ (eq-eqb w 6 e))
-
-  module _ (h : w ≡ 6 → ⊥) where
-    pub expands-eight : w ≡ 8 → Expand w v ≡ expands w v
-    unfolding expands
-    expands-eight e = sym (picks-second _ _ (ne-eqb w 6 h) ∙ picks-first _ _ (eq-eqb w 8 e))
-
-    pub expands-not : (w ≡ 8 → ⊥) → Bad ≡ expands w v
-    unfolding expands
-    expands-not e = sym (picks-second _ _ (ne-eqb w 6 h) ∙ picks-second _ _ (ne-eqb w 8 e))
-
+-- the enables that chip A has
 module _ (e o b : ℕ) where
   pub shows-it : e < 2 → To (OfA (PixelA e o b)) ≡ shows e o b
   unfolding shows
@@ -64,8 +50,8 @@ module _ {a b c d : ℕ} (p : a ≡ c) where
   pub says-pixel : b ≡ d → To (OfB (PixelB a b)) ≡ To (OfB (PixelB c d))
   says-pixel q = rw (p, q)
 
-  pub says-expand : {x : Line} → b ≡ d → x ≡ expands a b → x ≡ expands c d
-  says-expand q e = rw (sym p, sym q) e
+  pub says-expand : b ≡ d → Expand a b ≡ Expand c d
+  says-expand q = rw (p, q)
 
   pub says-shown : {e f : ℕ} {x : Line} → b ≡ d → e ≡ f → x ≡ shows a b e → x ≡ shows c d f
   says-shown q r e = rw (sym p, sym q, sym r) e

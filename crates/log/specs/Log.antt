@@ -2,7 +2,7 @@
 -- '#' stands for one hex digit, lower case, and any other byte for itself.
 use Prim.Native.Nat.{ℕ}
 use mathlib.Core.List.{List, [], _∷_, _++_}
-use lib.Dec.{eqb, ltb}
+use lib.Dec.{ltb}
 use Rattle.vocabulary.specs.Choice.{pick}
 use Rattle.hex.specs.Hex.{number}
 use Rattle.log_pattern.specs.Pattern.{fits}
@@ -70,10 +70,6 @@ blanking = 98 ∷ 108 ∷ 97 ∷ 110 ∷ 107 ∷ 61 ∷ 35 ∷ 35 ∷ 35 ∷ 35 
 abbrev pub syncing : List ℕ
 syncing = 115 ∷ 121 ∷ 110 ∷ 99 ∷ 61 ∷ 35 ∷ []
 
--- the expander has the widths 6 and 8
-unfoldable pub expands : ℕ → ℕ → Line
-expands width v = pick (eqb width 6) (Expand width v) (pick (eqb width 8) (Expand width v) Bad)
-
 -- an overlay enable is 0 or 1
 unfoldable pub shows : ℕ → ℕ → ℕ → Line
 shows enable o byte = pick (ltb enable 2) (To (OfA (PixelA enable o byte))) Bad
@@ -110,7 +106,7 @@ choices =
     []
 
 abbrev pub boardForms : List Form
-boardForms = form expanding (λ t. expands (number 1 7 t) (number 4 8 t)) ∷ form listing (λ t. Sheet) ∷ choices
+boardForms = form expanding (λ t. Expand (number 1 7 t) (number 4 8 t)) ∷ form listing (λ t. Sheet) ∷ choices
 
 -- a look, a call that every chip has too: tried last, since few lines are looks
 abbrev pub lookForms : List Form

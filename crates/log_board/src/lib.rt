@@ -4,23 +4,10 @@
 // log.
 ghost use mathlib.Core.Path.{_≡_};
 ghost use mathlib.Core.List.{_++_};
-ghost use Rattle.log.specs.Log.{said, boardForms, choices, lookForms, expands};
+ghost use Rattle.log.specs.Log.{said, boardForms, choices, lookForms};
 use log::Call;
 use log::Chip;
 use log::Line;
-
-// An expansion, of a width that the expander has.
-fn expansion(width: u8, v: u16) -> Line
-    ensures { λ r. ⌜ r ≡ expands width v ⌝ }
-{
-    if width == 6 {
-        return Line::Expand(width, v);
-    }
-    if width == 8 {
-        return Line::Expand(width, v);
-    }
-    Line::Bad
-}
 
 // A look, or a bad line.
 fn look(t: &[u8]) -> Line
@@ -53,7 +40,7 @@ pub fn board_line(t: &[u8]) -> Line
     ensures { λ r. ⌜ r ≡ said (boardForms ++ lookForms) (now (t .entry)) ⌝ }
 {
     if log_pattern::fits(b"expand=#####", t) {
-        return expansion(
+        return Line::Expand(
             hex_number::spelt_byte(t, 7, 1),
             hex_number::spelt_word(t, 8, 4),
         );

@@ -58,7 +58,7 @@ module _ (c : Chip) where
   pub linearized : (b : ℕ) → b < 256 → c .state .place ≡ 0 → paletteTaken threeBytes b c .state .red / 4 ≡ b
   linearized b h p =
       ap (λ (d : Chip). d .state .red / 4) (sym (red-latched (c .state) (c .table) b refl p))
-      ∙ ten-top 8 (omega arith) (omega arith) b h
+      ∙ ten-top 8 b h (omega arith)
 
 -- ---- Port 6, on a chip in range
 module _ (c : Chip) (r : InRange c) where

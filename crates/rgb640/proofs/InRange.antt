@@ -43,10 +43,10 @@ Low f = (f .red < 1024) × (f .green < 1024) × (f .blue < 1024)
 
 takes-low : (b : ℕ) → b < 256 → (f : Colour) → Low f → (place : ℕ) → Low (transferAt threeBytes place .takes b f)
 unfolding Low transferAt
-takes-low b h f l zero = let v = ten-below 8 (omega arith) (omega arith) b h in omega arith
-takes-low b h f l (suc zero) = let v = ten-below 8 (omega arith) (omega arith) b h in omega arith
-takes-low b h f l (suc (suc zero)) = let v = ten-below 8 (omega arith) (omega arith) b h in omega arith
-takes-low b h f l (suc (suc (suc place))) = let v = ten-below 8 (omega arith) (omega arith) b h in omega arith
+takes-low b h f l zero = let v = ten-below 8 b in omega arith
+takes-low b h f l (suc zero) = let v = ten-below 8 b in omega arith
+takes-low b h f l (suc (suc zero)) = let v = ten-below 8 b in omega arith
+takes-low b h f l (suc (suc (suc place))) = let v = ten-below 8 b in omega arith
 
 module _ (s : State) (t : List ℕ) (h : InRange (chip s t)) (d : Direction) (fetch : State → State)
     (keeps : (n : State) → InRange (chip n t) → InRange (chip (fetch n) t)) where

@@ -9,7 +9,7 @@ use Rattle.vocabulary.specs.Outcome.{Outcome, accepting}
 use Rattle.vocabulary.proofs.Every.{every-replicate}
 use Rattle.vocabulary.proofs.Face.{called-clear, called-does}
 use Rattle.vocabulary.proofs.Range.{passes-holds}
-use Rattle.expand.specs.Expand.{ten}
+use Rattle.expand.specs.Expand.{filled, ten}
 use Rattle.expand.proofs.Width.{expansion-accepted}
 use Rattle.ms622424.specs.Ms622424.{Chip, Entry, InRange, inMap, places, fresh, registerAt}
 use Rattle.ms622424.specs.Ms622424.{readable, answers, activeLow, mark, statusOf, statusByte, resets, refusals, does}
@@ -41,14 +41,14 @@ fresh-answers byte e c m a =
     (status-answers 0 0 byte e (fresh c) (fresh-in-range c places m (passes-holds _ kept)) refl refl refl)
 
 pub edges : Edges
-unfolding ten edgeStatus pick
+unfolding ten filled edgeStatus pick
 edges = record {
-  p1 = sym (expansion-accepted 8 63 (omega arith));
-  p2 = sym (expansion-accepted 8 64 (omega arith));
-  p3 = sym (expansion-accepted 8 128 (omega arith));
-  p4 = sym (expansion-accepted 8 255 (omega arith));
-  p5 = sym (expansion-accepted 6 4 (omega arith));
-  p6 = sym (expansion-accepted 6 63 (omega arith));
+  p1 = sym (expansion-accepted 8 63 (omega arith) (omega arith) (omega arith));
+  p2 = sym (expansion-accepted 8 64 (omega arith) (omega arith) (omega arith));
+  p3 = sym (expansion-accepted 8 128 (omega arith) (omega arith) (omega arith));
+  p4 = sym (expansion-accepted 8 255 (omega arith) (omega arith) (omega arith));
+  p5 = sym (expansion-accepted 6 4 (omega arith) (omega arith) (omega arith));
+  p6 = sym (expansion-accepted 6 63 (omega arith) (omega arith) (omega arith));
   p7 = fresh-answers 0x18 refl;
   p8 = status-answers 0 31 0x1C refl;
   p9 = status-answers 0 32 0x14 refl;

@@ -142,15 +142,15 @@ pub reads-back : ReadsBack
 reads-back c x e r g b he hr hg hb =
     let i = 0x4000 + e in
     let s = at (c .state) i 0 in
-    let low = ten-below 8 (omega arith) (omega arith) in
-    let top = ten-top 8 (omega arith) (omega arith) in
+    let low = ten-below 8 in
+    let top = ten-top 8 in
     let nothing : pointed c x i (omega arith) ≡ chip s (c .table) =
     ap (λ (n : State). chip n (c .table)) (fetches-nothing _ (λ a b. omega arith) _ _) in
     let y = pointed-range c x i (omega arith) nothing in
     let z = stored-range s (c .table) y (omega arith) (omega arith) refl r g b hr hg hb in
     let found =
     ap (λ (n : ℕ). entry e (put n (ten 8 r) (ten 8 g) (ten 8 b) (c .table))) (let m : offset i ≡ e = omega arith in m)
-    ∙ entry-put e _ _ _ (c .table) (omega arith) (low r hr) (low g hg) (low b hb) in
+    ∙ entry-put e _ _ _ (c .table) (omega arith) (low r) (low g) (low b) in
     heard called (points c x i (omega arith) nothing
     (stores s (c .table) y (omega arith) (omega arith) refl r g b hr hg hb (recalled _ z e he _ found)))
-    ∙ (let er = top r hr in let eg = top g hg in let eb = top b hb in cc)
+    ∙ (let er = top r hr (omega arith) in let eg = top g hg (omega arith) in let eb = top b hb (omega arith) in cc)

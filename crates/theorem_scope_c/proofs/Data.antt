@@ -6,7 +6,7 @@ use native.Mathlib.Omega.{arith}
 use Rattle.vocabulary.specs.Component.{put}
 use Rattle.vocabulary.specs.Line.{line}
 use Rattle.vocabulary.specs.Outcome.{accepting}
-use Rattle.expand.proofs.Width.{ten-eight}
+use Rattle.expand.proofs.Rules.{ten-eight}
 use Rattle.rgb640.specs.declared.State.{State}
 use Rattle.rgb640.specs.declared.Answer.{Answer}
 use Rattle.rgb640.specs.Rgb640.{Chip, chip, InRange, entry, next, offset, threeBytes, paletteTaken, paletteTold}
@@ -41,7 +41,7 @@ module _ (c : Chip) (r : InRange c) (e : ℕ) (l : e < 1024) where
     unfolding full put
     stored b h p n f =
         let same : offset (s .index) ≡ e = omega arith in
-        taken b h _ (blue-stored s (c .table) b (sym (ten-eight b)) p (rw same refl) f)
+        taken b h _ (blue-stored s (c .table) b (sym (ten-eight b h)) p (rw same refl) f)
 
     stored-steps : (b : ℕ) → b < 256 → s .place ≡ 2 → line (s .update) 1 ≡ 0 → (j : ℕ) → j ≡ next (s .index)
         → called (writes 6 b) c ≡ accepting 0 0 (withTable (full b) (at j 0 (s .red) (s .green) c))
@@ -52,8 +52,8 @@ module _ (c : Chip) (r : InRange c) (e : ℕ) (l : e < 1024) where
     pub write-rows : Write called e c
     unfolding full
     write-rows = record {
-      red-write = λ b h p. taken b h _ (rw (sym i) (red-latched s (c .table) b (sym (ten-eight b)) p));
-      green-write = λ b h p. taken b h _ (rw (sym i) (green-latched s (c .table) b (sym (ten-eight b)) p));
+      red-write = λ b h p. taken b h _ (rw (sym i) (red-latched s (c .table) b (sym (ten-eight b h)) p));
+      green-write = λ b h p. taken b h _ (rw (sym i) (green-latched s (c .table) b (sym (ten-eight b h)) p));
       blue-write-steps = λ b h p u. stored-steps b h p u _ (omega arith);
       blue-write-stays = λ b h p u. stored b h p _ (rw (sym i) (sym (stays writing _ s (write-disabled _ u))));
     }

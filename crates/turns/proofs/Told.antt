@@ -3,10 +3,8 @@
 use Prim.Native.Nat.{ℕ, _/_, _%_, _<_}
 use mathlib.Core.Path.{_≡_, sym}
 use native.Mathlib.Omega.{arith}
-use borrow.Author.Tests.{eq-eqb, ne-eqb}
 use Rattle.vocabulary.specs.Outcome.{Outcome}
 use Rattle.vocabulary.specs.Component.{colourWord}
-use Rattle.vocabulary.proofs.Choice.{picks-first, picks-second}
 use Rattle.expand.specs.declared.Expanded.{Expanded}
 use Rattle.expand.specs.Expand.{meaning, expansion}
 use Rattle.answers.specs.declared.Text.{Text}
@@ -57,9 +55,6 @@ Tells text o = Says text (told (o .refusal) (tenText (o .value)))
 pub expanded-as : {text : Text} {e k : Expanded} → e ≡ k → Tells text (meaning k) → Tells text (meaning e)
 expanded-as m s = rw m s
 
-module _ {text : Text} {o : Outcome Unit} (width v : ℕ) where
-  pub six-told : width ≡ 6 → o ≡ expansion 6 v → Tells text o → Says text (expandText width v)
-  six-told h m s = rw (picks-first {A = ℕ} 6 8 (eq-eqb width 6 h), sym m) s
-
-  pub eight-told : (width ≡ 6 → ⊥) → o ≡ expansion 8 v → Tells text o → Says text (expandText width v)
-  eight-told h m s = rw (picks-second {A = ℕ} 6 8 (ne-eqb width 6 h), sym m) s
+pub expand-told : {text : Text} {o : Outcome Unit} (width v : ℕ) → o ≡ expansion width v → Tells text o
+    → Says text (expandText width v)
+expand-told width v m s = rw (sym m) s

@@ -2,8 +2,6 @@
 use Prim.Native.Nat.{ℕ, _/_, _%_}
 use mathlib.Core.Path.{_≡_}
 use mathlib.Core.List.{List}
-use lib.Dec.{eqb}
-use Rattle.vocabulary.specs.Choice.{pick}
 use Rattle.vocabulary.specs.Outcome.{Outcome}
 use Rattle.expand.specs.Expand.{expansion}
 use Rattle.answers.specs.declared.Text.{Text}
@@ -53,8 +51,8 @@ pub record Told {S : Type 0} (text : Text) (state : S) (refusal : ℕ) (line : L
   pub says : Says text (told refusal line)
   pub keeps : state ≡ given
 
--- ---- The expander: of the widths that a line lets through, 6 is 6 and any other 8
+-- ---- The expander
 abbrev pub expandText : ℕ → ℕ → List ℕ
 expandText width v =
-    let o = expansion (pick (eqb width 6) 6 8) v in
+    let o = expansion width v in
     told (o .refusal) (tenText (o .value))

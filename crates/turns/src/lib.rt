@@ -23,8 +23,5 @@ fn ten(e: Expanded) -> Text
 pub fn expand(width: u8, v: u16) -> Text
     ensures { λ r. ⌜ Says r (expandText width v) ⌝ }
 {
-    if width == 6 {
-        return ten(expand_tables::expand6(v as u32));
-    }
-    ten(expand_tables::expand8(v as u32))
+    ten(expand_widths::expand(width as u32, v as u32))
 }

@@ -8,6 +8,5 @@ ruleset forms = (said-first, said-next, says-expand, needs)
 pub board-line-spec : {M : Type 1} → statement M
 board-line-spec =
     tie.close
-    (tie.spec (λ c. search needs) (λ c. search needs) (λ c. search needs) (λ c. search needs) (λ c. search needs)
-    (λ c. search forms) (λ c. search needs) (λ c. search needs) (λ c. search forms) (λ c. search needs)
-    (λ c. search forms))
+    (tie.spec (λ c. search needs) (λ c. search needs) (λ c. search needs) (λ c. search needs) (λ c. search forms)
+    (λ c. search needs) (λ c. search needs) (λ c. search forms) (λ c. search needs) (λ c. search forms))

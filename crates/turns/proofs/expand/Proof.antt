@@ -1,9 +1,8 @@
-use Rattle.turns.proofs.Told.{six-told, eight-told}
+use Rattle.turns.proofs.Told.{expand-told}
 use Rattle.turns.proofs.expand.Statement.{statement}
 use Rattle.turns.proofs.expand.Tie as tie
 
 pub expand-spec : {M : Type 1} → statement M
 expand-spec =
     tie.close
-    (tie.spec (λ c κs. search) (λ c κs. search) (λ c. search six-told) (λ c κs. search)
-    (λ c κs. search) (λ c. search eight-told))
+    (tie.spec (λ c κs. search) (λ c κs. search) (λ c. search expand-told))

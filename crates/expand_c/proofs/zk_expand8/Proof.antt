@@ -1,9 +1,0 @@
-use mathlib.Core.Path.{ap, _∙_}
-use Rattle.vocabulary.specs.Reply.{telling}
-use Rattle.expand_c.proofs.zk_expand8.Statement.{statement}
-use Rattle.expand_c.proofs.zk_expand8.Tie as tie
-
-pub zk-expand8-spec : {M : Type 1} → statement M
-zk-expand8-spec =
-    tie.close
-    (tie.spec (λ c. search) (λ c. search) (λ c. c .told .ensures ∙ ap telling (c .before .expand8 .ensures)))
