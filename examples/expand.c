@@ -1,5 +1,5 @@
-/* expand 8|6 COMPONENT: a component of 8 or 6 bits as ten. The component is decimal, or hex behind 0x; the answer is
- * told in both. Status 0; 1 where the component is refused; 2 for bad usage. */
+/* expand WIDTH COMPONENT: a component of 4 to 8 bits as ten. Both are decimal, or hex behind 0x; the answer is told in
+ * both. Status 0; 1 where the width or the component is refused; 2 for bad usage. */
 #include <zikombaru.h>
 
 #include <stdio.h>
@@ -16,18 +16,21 @@ static unsigned long long number(const char *text) {
 }
 
 int main(int argc, char **argv) {
-    if (argc != 3 || (strcmp(argv[1], "8") != 0 && strcmp(argv[1], "6") != 0)) {
-        fprintf(stderr, "usage: expand 8|6 COMPONENT, the component decimal, or hex as 0x80\n");
+    if (argc != 3) {
+        fprintf(stderr, "usage: expand WIDTH COMPONENT, a width of 4 to 8 bits; decimal, or hex as 0x80\n");
         return 2;
     }
-    unsigned long long component = number(argv[2]);
-    if (component > UINT32_MAX) {
-        fprintf(stderr, "expand: '%s' is no number of 32 bits, decimal or hex as 0x80\n", argv[2]);
-        return 2;
-    }
-    uint64_t answer = argv[1][0] == '8' ? zk_expand8((uint32_t)component) : zk_expand6((uint32_t)component);
+    for (int i = 1; i < 3; i++)
+        if (number(argv[i]) > UINT32_MAX) {
+            fprintf(stderr, "expand: '%s' is no number of 32 bits, decimal or hex as 0x80\n", argv[i]);
+            return 2;
+        }
+    uint32_t width = (uint32_t)number(argv[1]);
+    uint64_t answer = zk_expand(width, (uint32_t)number(argv[2]));
     if (zk_refusal(answer) != ZK_ACCEPTED) {
-        printf("refused=%u (%s)\n", zk_refusal(answer), zk_refusal_text(zk_refusal(answer)));
+        printf("refused=%u (%s): ", zk_refusal(answer), zk_refusal_text(zk_refusal(answer)));
+        if (width < 4 || width > 8) printf("there are widths of 4 to 8 bits\n");
+        else printf("%u bits hold 0 to %u\n", width, (1u << width) - 1);
         return 1;
     }
     printf("ten=0x%03x (%u)\n", zk_value(answer), zk_value(answer));

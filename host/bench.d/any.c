@@ -114,15 +114,14 @@ static zk_c_state state_c(void) {
 static void any_c(struct lent *l, struct seen *seen) {
     zk_c_state s = state_c();
     uint8_t port = (uint8_t)(4 + near(3, 8)), byte = below(256);
-    uint32_t component = near(256, 30);
+    uint32_t width = 4 + near(5, 8), value = near((uint32_t)1 << (width < 9 ? width : 9), 30);
     size_t n = length(ZK_C_TABLE);
-    switch (below(6)) {
+    switch (below(5)) {
     case 0: see_row(seen, flat_c(CALL(c_write)(s, port, byte, l->table, n))); break;
     case 1: see_row(seen, flat_c(CALL(c_read)(s, port, l->table, n))); break;
     case 2: see_row(seen, flat_c(CALL(c_reset)(s))); break;
-    case 3: see_number(seen, CALL(expand8)(component)); break;
-    case 4: see_row(seen, flat_look(CALL(c_look)(s, look_at(8, ZK_C_LOOK_TABLE, ZK_C_TABLE), l->table, n))); break;
-    default: see_number(seen, CALL(expand6)(component));
+    case 3: see_row(seen, flat_look(CALL(c_look)(s, look_at(8, ZK_C_LOOK_TABLE, ZK_C_TABLE), l->table, n))); break;
+    default: see_number(seen, CALL(expand)(width, value));
     }
 }
 

@@ -188,7 +188,7 @@ static void line_c(void) {
     else if (kind < 8) printf("w5=%02x\n", (unsigned)(below(2) ? 0x40 + below(4) : 0x80 + below(4)));
     else if (kind < 60) printf("w6=%02x\n", (unsigned)below(256));
     else if (kind < 95) printf("r%u\n", 4 + (unsigned)below(3));
-    else printf("expand=%c%04x\n", below(2) ? '6' : '8', (unsigned)below(256));
+    else printf("expand=%u%04x\n", 4 + (unsigned)below(5), (unsigned)below(256));
 }
 
 /* a look at the state or the largest table of the chip; now and then at a place that is not there */

@@ -160,13 +160,8 @@ static void blank_line(uint32_t slots) {
 }
 
 static void expand_line(uint32_t width, uint32_t v) {
-    uint64_t r;
-    if (v >= (uint32_t)1 << width) {
-        refused(ZK_OUT_OF_RANGE);
-        return;
-    }
-    r = width == 6 ? NAME(expand6)(v) : NAME(expand8)(v);
-    SAY_HEX("ten=", zk_value(r), 3);
+    if (width < 4 || width > 8 || v >= (uint32_t)1 << width) refused(ZK_OUT_OF_RANGE);
+    else SAY_HEX("ten=", zk_value(NAME(expand)(width, v)), 3);
 }
 
 static void sheet_line(void) {
@@ -207,7 +202,7 @@ static int number_line(const uint8_t *t, size_t n) {
         zk_b_answer r = NAME(b_sync)(b, (uint8_t)u, queue, ZK_B_PLACES);
         return SAY_HEX("sync=", r.value, 1), 1;
     }
-    if (n == 12 && memcmp(t, "expand=", 7) == 0 && hex(t + 7, 1, &u) && (u == 6 || u == 8) && hex(t + 8, 4, &v))
+    if (n == 12 && memcmp(t, "expand=", 7) == 0 && hex(t + 7, 1, &u) && hex(t + 8, 4, &v))
         return expand_line(u, v), 1;
     if (n == 10 && memcmp(t, "look=", 5) == 0 && hex(t + 5, 5, &u)) return look_line(u), 1;
     return 0;

@@ -196,7 +196,7 @@ static void b_sync(struct lent *lent, struct seen *seen) {
     }
 }
 
-/* ---- chip C and the expanders */
+/* ---- chip C and the expander */
 static zk_c_answer index_c(struct lent *lent, struct seen *seen, uint8_t high) {
     zk_c_state s = {0};
     zk_c_answer a = CALL(c_write)(s, 4, 0, TABLE);
@@ -239,15 +239,16 @@ static void c_look_table(struct lent *lent, struct seen *seen) {
     for (uint32_t i = 0; i < ZK_C_TABLE; i++) see_look(seen, CALL(c_look)(look_c, ZK_C_LOOK_TABLE + i, TABLE));
 }
 
-static void expand_8(struct lent *lent, struct seen *seen) {
-    (void)lent;
-    for (uint32_t i = 0; i < 256; i++) see_number(seen, CALL(expand8)(i));
-}
-
-static void expand_6(struct lent *lent, struct seen *seen) {
-    (void)lent;
-    for (uint32_t i = 0; i < 64; i++) see_number(seen, CALL(expand6)(i));
-}
+#define EXPANDS(width)                                                                                                 \
+    static void expand_##width(struct lent *lent, struct seen *seen) {                                                 \
+        (void)lent;                                                                                                    \
+        for (uint32_t i = 0; i < (uint32_t)1 << width; i++) see_number(seen, CALL(expand)(width, i));                  \
+    }
+EXPANDS(4)
+EXPANDS(5)
+EXPANDS(6)
+EXPANDS(7)
+EXPANDS(8)
 
 /* ---- sheets */
 static void to_calls(struct lent *lent, struct seen *seen, const uint8_t *text, size_t length) {
@@ -297,6 +298,7 @@ run_single *const CALL(single) = single;
 #define A_TESTS "2 lengths, 5 ranges of the state"
 #define B_TESTS "2 lengths, 7 ranges of the state, 64 places of the queue"
 #define C_TESTS "the length, 6 ranges of the state"
+#define EXPAND_TESTS "the width, the value"
 const struct work CALL(works)[WORKS] = {
     {"A write, 256 colours", a_write_colours, 1, A_TESTS},
     {"A write, 4 overlays", a_write_overlays, 1, A_TESTS},
@@ -332,8 +334,11 @@ const struct work CALL(works)[WORKS] = {
     {"C read, index", c_read_index, 1, C_TESTS},
     {"C look, state", c_look_state, 1, C_TESTS},
     {"C look, table", c_look_table, 1, C_TESTS},
-    {"expand, 8 bits", expand_8, 1, "the component"},
-    {"expand, 6 bits", expand_6, 1, "the component"},
+    {"expand, 4 bits", expand_4, 1, EXPAND_TESTS},
+    {"expand, 5 bits", expand_5, 1, EXPAND_TESTS},
+    {"expand, 6 bits", expand_6, 1, EXPAND_TESTS},
+    {"expand, 7 bits", expand_7, 1, EXPAND_TESTS},
+    {"expand, 8 bits", expand_8, 1, EXPAND_TESTS},
     {"sheet to calls, 265 lines", sheet_whole, 0, "every byte of the text, the buffer's length"},
     {"sheet to calls, 9 lines", sheet_short, 0, "every byte of the text, the buffer's length"},
     {"sheet to calls, line 265 bad", sheet_damaged, 0, "every byte of the text up to the bad line"},

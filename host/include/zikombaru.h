@@ -29,7 +29,7 @@
  *    moves entries that are not there (examples/lent.c).
  *  - Chips. Who does not want to keep state and tables apart takes a zk_a_chip, zk_b_chip or zk_c_chip, which holds
  *    both, and the calls named after it (zk_a_chip_write and so on): the same calls, that keep the state in the chip.
- *  - Answers. The expanders and the calls on sheets answer one number of 64 bits: zk_refusal, zk_value, zk_count,
+ *  - Answers. The expander and the calls on sheets answer one number of 64 bits: zk_refusal, zk_value, zk_count,
  *    zk_line read it. The chips' calls answer a struct with the refusal first, or the refusal alone; a look, which
  *    changes nothing, answers a zk_looked on each chip. gcc and clang warn where an answer is dropped (ZK_ANSWER).
  *  - Names. zk_a_ is chip A (zikombaru_hd153108.h), zk_b_ chip B (zikombaru_ms622424.h), zk_c_ chip C
@@ -51,9 +51,9 @@ extern "C" {
 
 /* The version of this header. While the major number is 0, the minor one steps when a caller must change something. */
 #define ZK_VERSION_MAJOR 0
-#define ZK_VERSION_MINOR 1
+#define ZK_VERSION_MINOR 2
 #define ZK_VERSION_PATCH 0
-#define ZK_VERSION_TEXT "0.1.0"
+#define ZK_VERSION_TEXT "0.2.0"
 #define ZK_VERSION (ZK_VERSION_MAJOR * 65536 + ZK_VERSION_MINOR * 256 + ZK_VERSION_PATCH)
 
 /* The version of the library that is linked: the same packed number, and the same text, with zeros behind it. */
@@ -64,10 +64,15 @@ typedef struct zk_text {
 ZK_ANSWER uint32_t zk_version(void);
 ZK_ANSWER zk_text zk_version_text(void);
 
-/* A component of 8 or of 6 bits as ten (RGB640, Tables 23 to 25): 4v + v/64, and 16v + v/4, rounded down. zk_value
- * reads them. One that the width does not hold, 256 and over or 64 and over, is ZK_OUT_OF_RANGE. */
-ZK_ANSWER uint64_t zk_expand8(uint32_t component);
-ZK_ANSWER uint64_t zk_expand6(uint32_t component);
+/* A component v of `width` bits, 4 to 8, as ten: its bits from the top, and from the top again until ten are filled
+ * (RGB640, Tables 23 to 25). Divisions round down. zk_value reads the ten bits. A width outside 4 to 8, or a value that
+ * the width does not hold (2 to the width, or more), is ZK_OUT_OF_RANGE.
+ *
+ *  width 4   64v + 4v + v/4      width 6   16v + v/4      width 8   4v + v/64
+ *  width 5   33v                 width 7   8v + v/16
+ *
+ * Version 0.1.0 had zk_expand8(v) and zk_expand6(v): they are zk_expand(8, v) and zk_expand(6, v) now. */
+ZK_ANSWER uint64_t zk_expand(uint32_t width, uint32_t value);
 
 #ifdef __cplusplus
 }

@@ -22,7 +22,7 @@
  *  0x8000 to 0x83FF   refused                             a component of the FETCHED entry
  *  any other          refused                             refused
  *
- * A component is written as a byte and expanded to ten bits (zk_expand8). Red and green are latched, and the order
+ * A component is written as a byte and expanded to ten bits (zk_expand at width 8). Red and green are latched, and the order
  * moves on; blue stores all three at the index as it then stands, and the order restarts at red. Then, where register
  * 0x000E enables auto-increment for writes, the offset into the palette steps, modulo 1,024: 0x43FF goes to 0x4000.
  *

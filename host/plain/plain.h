@@ -11,8 +11,7 @@
 #include "zikombaru.h"
 
 #define PLAIN_CALLS(p)                                                                                                 \
-    uint64_t p##_expand8(uint32_t component);                                                                          \
-    uint64_t p##_expand6(uint32_t component);                                                                          \
+    uint64_t p##_expand(uint32_t width, uint32_t value);                                                               \
     zk_a_answer p##_a_write(zk_a_state s, uint8_t select, uint8_t byte, uint8_t *colours, size_t colours_length,       \
                             uint8_t *overlays, size_t overlays_length);                                                \
     zk_a_answer p##_a_read(zk_a_state s, uint8_t select, const uint8_t *colours, size_t colours_length,                \

@@ -1,18 +1,15 @@
-/* Chip C and the expanders in plain C, from document 01, "Chip C", and document 02, P5. The expanders are the rule, not
- * a table. */
+/* Chip C and the expander in plain C, from document 01, "Chip C", and document 02, P4 and P5. The expander is the rules,
+ * not a table. */
 #include "plain.h"
 
 static uint16_t linear8(unsigned v) { return (uint16_t)(v << 2 | v >> 6); }
-static uint16_t linear6(unsigned v) { return (uint16_t)(v << 4 | v >> 2); }
 
-uint64_t NAME(expand8)(uint32_t component) {
-    if (CHECKED && component > 255) return ZK_OUT_OF_RANGE;
-    return (uint64_t)linear8(component) << 16;
-}
-
-uint64_t NAME(expand6)(uint32_t component) {
-    if (CHECKED && component > 63) return ZK_OUT_OF_RANGE;
-    return (uint64_t)linear6(component) << 16;
+/* the value, and so many of its top bits as are missing; at 4 bits the value is too short for that by two */
+uint64_t NAME(expand)(uint32_t width, uint32_t value) {
+    uint32_t ten;
+    if (CHECKED && (width < 4 || width > 8 || value >> width != 0)) return ZK_OUT_OF_RANGE;
+    ten = width == 4 ? value << 6 | value << 2 | value >> 2 : value << (10 - width) | value >> (2 * width - 10);
+    return (uint64_t)ten << 16;
 }
 
 /* refusals 1 and 9 */

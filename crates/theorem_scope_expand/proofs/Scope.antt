@@ -1,6 +1,6 @@
 -- THE EXPANDER IS WHAT THE DOCUMENTS SAY OF IT, and one that is so is that expander. Assumes nothing.
 use Prim.Native.Nat.{ℕ, _^_, _<_, _≤_}
-use mathlib.Core.Path.{_≡_, sym, subst}
+use mathlib.Core.Path.{_≡_, sym, subst, _∙_}
 use native.Mathlib.Omega.{arith}
 use Rattle.vocabulary.specs.Outcome.{Outcome, accepting}
 use Rattle.vocabulary.proofs.Cases.{under, equals}
@@ -11,19 +11,20 @@ use Rattle.expand.proofs.Width.{ten-bit, ten-below, ten-top, ten-zero, ten-larg
 use Rattle.expand.proofs.Rules.{ten-four, ten-five, ten-six, ten-seven, ten-eight}
 use Rattle.theorem_scope_expand.specs.Scope.{Scope, Shared}
 
--- a width's row, from its rule
-row : (w v : ℕ) {t : ℕ} → (v < 2 ^ w → ten w v ≡ t) → 3 < w → w < 9 → v < 2 ^ w → expansion w v ≡ accepting t 0 tt
-row w v rule low high h = sym (expansion-ten w v (sym (rule h)) low high h)
+-- a width's row, from its rule: what the row says is the same number
+row : (w v : ℕ) {s t : ℕ} → (v < 2 ^ w → ten w v ≡ s) → s ≡ t → v < 2 ^ w → 3 < w → w < 9
+    → expansion w v ≡ accepting t 0 tt
+row w v rule same h low high = sym (expansion-ten w v (sym (rule h ∙ same)) low high h)
 
 pub scope : Scope expansion
 scope = record {
-  four = λ v h. row 4 v (ten-four v) (omega arith) (omega arith) h;
-  five = λ v h. row 5 v (ten-five v) (omega arith) (omega arith) h;
-  six = λ v h. row 6 v (ten-six v) (omega arith) (omega arith) h;
-  seven = λ v h. row 7 v (ten-seven v) (omega arith) (omega arith) h;
-  eight = λ v h. row 8 v (ten-eight v) (omega arith) (omega arith) h;
-  nine-width = λ w v off. sym (width-refused w v (λ low high. off (low, omega arith)));
-  nine-value = λ w v h. sym (value-refused w v h);
+  four = λ v h. row 4 v (ten-four v) (omega arith) (omega arith) (omega arith) (omega arith);
+  five = λ v h. row 5 v (ten-five v) (omega arith) (omega arith) (omega arith) (omega arith);
+  six = λ v h. row 6 v (ten-six v) (omega arith) (omega arith) (omega arith) (omega arith);
+  seven = λ v h. row 7 v (ten-seven v) (omega arith) (omega arith) (omega arith) (omega arith);
+  eight = λ v h. row 8 v (ten-eight v) (omega arith) (omega arith) (omega arith) (omega arith);
+  nine-width = λ w v off. sym (width-refused w v (λ low high. off (omega arith, omega arith)));
+  nine-value = λ w v h. sym (value-refused w v (omega arith));
 }
 
 -- ---- no other does

@@ -44,13 +44,17 @@ fn named(index: u16) -> Named {
     }
 }
 
-/// A component of 6 or 8 bits as ten.
-pub fn expand(bits: u8, component: u32) -> Answer {
-    match (bits, component) {
-        (6, 0..=63) => value((16 * component + component / 4) as u16),
-        (8, 0..=255) => value((4 * component + component / 64) as u16),
-        _ => refused(9),
-    }
+/// A component of 4 to 8 bits as ten, by each width's formula.
+pub fn expand(width: u32, component: u32) -> Answer {
+    let ten = match (width, component) {
+        (4, 0..=15) => 64 * component + 4 * component + component / 4,
+        (5, 0..=31) => 33 * component,
+        (6, 0..=63) => 16 * component + component / 4,
+        (7, 0..=127) => 8 * component + component / 16,
+        (8, 0..=255) => 4 * component + component / 64,
+        _ => return refused(9),
+    };
+    value(ten as u16)
 }
 
 /// Refusal 1 or 9 of every call that is lent the table, or else 3 where there is no such port or place.
@@ -238,8 +242,12 @@ mod tests {
         for (component, ten) in [(0, 0), (4, 65), (63, 1_023)] {
             assert_eq!(expand(6, component), value(ten as u16));
         }
-        for (bits, component) in [(6, 64), (8, 256), (6, u32::MAX), (8, u32::MAX)] {
-            assert_eq!(expand(bits, component), refused(9));
+        // bits 0011 become 00110011 and 00
+        for (width, component, ten) in [(4, 3, 204), (4, 4, 273), (4, 15, 1_023), (5, 1, 33), (7, 16, 129)] {
+            assert_eq!(expand(width, component), value(ten as u16));
+        }
+        for (width, component) in [(4, 16), (5, 32), (6, 64), (7, 128), (8, 256), (3, 0), (9, 0), (0, 0), (6, u32::MAX)] {
+            assert_eq!(expand(width, component), refused(9));
         }
     }
 

@@ -44,8 +44,9 @@ fn line_c(call: chip_c::Call) -> String {
 }
 
 fn expand_line(r: &mut Random) -> String {
-    let limit = r.pick(&[70, 300, 65_536]);
-    format!("expand={}{:04x}", r.pick(&[6, 6, 8, 8, 8, 4, 7]), r.below(limit))
+    let limit = r.pick(&[20, 70, 300, 65_536]);
+    let any = r.below(16);
+    format!("expand={:x}{:04x}", r.pick(&[4, 5, 6, 7, 8, 8, 3, 9, any]), r.below(limit))
 }
 
 /// Some lines of a log, after the choice of a chip: mostly the chip that they are for.

@@ -23,7 +23,7 @@ mod sheet;
 
 fn main() {
     let mut run = check::Run::start();
-    run.test("expand: every component of 6 and 8 bits, and beyond", expand::all);
+    run.test("expand: every component of 4 to 8 bits, and beyond", expand::all);
     run.test("chip A: any call on any chip, and runs", compare::chip_a);
     run.test("chip B: any call on any chip, and runs", compare::chip_b);
     run.test("chip C: any call on any chip, and runs", compare::chip_c);

@@ -6,7 +6,8 @@
 //! - Every answer line ends in LF, also the answer to a last log line that lacks it.
 //! - The parts of a line stand together without spaces, as `w4=00` in document 01's list shows.
 //! - A select digit of 8 to f is well formed: its call refuses 3. So is an overlay number or mode digit over 3, a word
-//!   over 24 bits, a number of slots over 16 bits, and a component wider than `expand=` says: their calls refuse 9.
+//!   over 24 bits, a number of slots over 16 bits, a width of `expand=` that is not there, and a component wider than it
+//!   says: their calls refuse 9.
 //! - B's reset answers `ok`, as every reset; every accepted write on B tells its count, whatever the select.
 //! - Any five digits are a well formed `look=`: a place that is not there is refused by its call.
 use crate::answer::Answer;
@@ -137,8 +138,8 @@ impl Board {
             b"reset" => Some(self.reset()),
             b"tick" => a.then(|| Told::Ok(self.a.make(chip_a::Call::Tick))),
             b"sheet" => a.then(|| self.sheet()),
-            [b'e', b'x', b'p', b'a', b'n', b'd', b'=', width @ (b'6' | b'8'), component @ ..] => {
-                Some(Told::Ten(chip_c::expand(width - b'0', hex(component, 4)?)))
+            [b'e', b'x', b'p', b'a', b'n', b'd', b'=', width, component @ ..] => {
+                Some(Told::Ten(chip_c::expand(hex(&[*width], 1)?, hex(component, 4)?)))
             }
             _ => None,
         }
@@ -289,12 +290,14 @@ mod tests {
 
     #[test]
     fn expand_on_any_chip() {
-        let log = "expand=80080 expand=800ff expand=60004 expand=6003f expand=60040 expand=80100";
-        let answers = "ten=202 ten=3ff ten=041 ten=3ff refused=9 refused=9";
+        let log = "expand=80080 expand=800ff expand=60004 expand=6003f expand=60040 expand=80100 expand=40003 \
+                   expand=50001 expand=70010 expand=30000 expand=90000 expand=00000 expand=f0000 expand=40010";
+        let answers = "ten=202 ten=3ff ten=041 ten=3ff refused=9 refused=9 ten=0cc \
+                       ten=021 ten=081 refused=9 refused=9 refused=9 refused=9 refused=9";
         for chip in ["153108", "622424", "640"] {
             check(&format!("chip={} {}", chip, log), &format!("ok {}", answers));
         }
-        for line in "expand=70000 expand=40000 expand=6000 expand=600000 expand=6003F expand= expand=9".split(' ') {
+        for line in "expand=g0000 expand=A0000 expand=6000 expand=600000 expand=6003F expand= expand=9".split(' ') {
             check(line, "bad");
         }
     }
