@@ -16,23 +16,29 @@ fn eight_listed(v: u8) -> u16
     EIGHT[v as usize]
 }
 
-// A component of so many bits as ten: three times in a row it has 12 bits or more, of which the first ten.
+// A component of so many bits as ten: the first ten of it three times in a row, which are 12 bits or more. What the
+// width does not hold goes over ten bits there.
 pub fn expand(width: u32, v: u32) -> Expanded
     ensures { λ r. ⌜ meaning r ≡ expansion width v ⌝ }
 {
     if width < 4 {
         return Expanded::Refused;
     }
-    if 9 <= width {
-        return Expanded::Refused;
-    }
-    if v >> width != 0 {
-        return Expanded::Refused;
-    }
-    if width == 8 {
+    if 8 <= width {
+        if 9 <= width {
+            return Expanded::Refused;
+        }
+        if 256 <= v {
+            return Expanded::Refused;
+        }
         return Expanded::Ten(eight_listed(v as u8));
     }
-    let twice = (v << width) + v;
-    let thrice = (twice << width) + v;
-    Expanded::Ten((thrice >> (3 * width - 10)) as u16)
+    let once = v as u64;
+    let twice = (once << width) + once;
+    let thrice = (twice << width) + once;
+    let first = thrice >> (3 * width - 10);
+    if first < 1024 {
+        return Expanded::Ten(first as u16);
+    }
+    Expanded::Refused
 }
