@@ -9,7 +9,7 @@ use Rattle.vocabulary.specs.Outcome.{Outcome, accepting, refusing, answered}
 use Rattle.expand.specs.declared.Expanded.{Expanded}
 use Rattle.expand.specs.declared.Expanded.the-variants.{Ten, Refused}
 
--- place i, from the top, of the bits of a component v of w bits, from its top, over and over
+-- the bits of a component v of w bits, from its top, over and over: the one at place i
 abbrev pub repeated : ℕ → ℕ → ℕ → ℕ
 repeated w v i = line v (w - 1 - i % w)
 
@@ -18,7 +18,7 @@ unfoldable pub filled : ℕ → ℕ → ℕ → ℕ
 filled w v zero = 0
 filled w v (suc n) = 2 * filled w v n + repeated w v n
 
--- the first ten; at 8 bits 4v + floor(v/64), at 4 bits 64v + 4v + floor(v/4) (theorem_expand has every width's rule)
+-- the first ten; at 8 bits that is 4v + floor(v/64) (theorem_scope_expand has every width's rule)
 unfoldable pub ten : ℕ → ℕ → ℕ
 ten w v = filled w v 10
 

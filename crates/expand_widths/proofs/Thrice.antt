@@ -29,48 +29,52 @@ module _ (w : ℕ) (high : w < 8) where
   byte : 2 ^ w ≤ 256
   byte = pow-le-pow-right {n = 2} (omega arith) {i = w} {j = 8} (omega arith)
 
-  -- a number of 32 bits once, and twice
+  -- nothing is lost of a number of 32 bits, nor of it twice in a row, which is below 2 to the 41
   pub once-row : (x : ℕ) → x < 4294967296 → x < 2199023255552
   once-row x h = omega arith
 
-  module _ (x y : ℕ) (k : y < 4294967296) where
-    whole : x < 2199023255552 → shifted x w ≡ x * 2 ^ w
-    whole h = mod-eq-of-lt (omega (arith, mul-le-mul h byte))
+  whole : (x : ℕ) → x < 2199023255552 → shifted x w ≡ x * 2 ^ w
+  whole x h = mod-eq-of-lt (omega (arith, mul-le-mul h byte))
 
+  module _ (x y : ℕ) (k : y < 4294967296) where
     pub twice-row : x < 4294967296 → shifted x w + y < 2199023255552
-    twice-row h = rw (whole (once-row x h)) (omega (arith, mul-le-mul h byte))
+    twice-row h = rw (whole x (once-row x h)) (omega (arith, mul-le-mul h byte))
 
     pub row-fits : x < 2199023255552 → shifted x w + y < 18446744073709551616
-    row-fits h = rw (whole h) (omega (arith, mul-le-mul h byte))
+    row-fits h = rw (whole x h) (omega (arith, mul-le-mul h byte))
 
-  -- the first ten bits, as the code finds them
+  -- three times in a row, and the first ten bits of that, as the code finds them
   module _ (v : ℕ) (k : v < 4294967296) (low : 3 < w) where
     abbrev row : ℕ
     row = shifted (shifted v w + v) w + v
 
+    abbrev first : ℕ
+    first = row / 2 ^ (3 * w - 10)
+
     row-whole : row ≡ (v * 2 ^ w + v) * 2 ^ w + v
-    row-whole = rw (whole _ v k (twice-row v v k k), whole v v k (once-row v k)) refl
+    row-whole = rw (whole _ (twice-row v v k k), whole v (once-row v k)) refl
 
-    row-ten : v < 2 ^ w → row / 2 ^ (3 * w - 10) ≡ ten w v
-    row-ten h = rw row-whole (sym (ten-thrice v w low h))
+    -- they are the rule's where the width holds the value
+    first-ten : v < 2 ^ w → first ≡ ten w v
+    first-ten h = rw row-whole (sym (ten-thrice v w low h))
 
-    -- a value that the width does not hold goes over them
-    row-over : 2 ^ w ≤ v → 1024 ≤ row / 2 ^ (3 * w - 10)
-    row-over h =
-        let p = 2 ^ w in
-        let rest = 2 ^ (3 * w - 10) in
-        let square : p * p ≤ v * p + v = omega (arith, mul-le-mul-right p h) in
-        let cube : p * p * p ≤ (v * p + v) * p = mul-le-mul-right p square in
+    -- and else it goes over ten bits: 2^w three times in a row is 1,024 times what is dropped
+    cube : 2 ^ w * 2 ^ w * 2 ^ w ≡ 1024 * 2 ^ (3 * w - 10)
+    cube =
         let places : w + w + w ≡ 10 + (3 * w - 10) = omega arith in
-        let parts : p * p * p ≡ 1024 * rest =
-        rw (sym (pow-add 2 w w), sym (pow-add 2 (w + w) w))
-        (ap (λ (n : ℕ). 2 ^ n) places ∙ pow-add 2 10 (3 * w - 10)) in
-        let inside : 1024 * rest ≤ (v * p + v) * p + v = omega (arith, cube, parts) in
+        rw (sym (pow-add 2 w w), sym (pow-add 2 (w + w) w)) (ap (λ (n : ℕ). 2 ^ n) places ∙ pow-add 2 10 (3 * w - 10))
+
+    first-over : 2 ^ w ≤ v → 1024 ≤ first
+    first-over h =
+        let square : 2 ^ w * 2 ^ w ≤ v * 2 ^ w + v = omega (arith, mul-le-mul-right (2 ^ w) h) in
+        let inside : 1024 * 2 ^ (3 * w - 10) ≤ (v * 2 ^ w + v) * 2 ^ w + v =
+        omega (arith, mul-le-mul-right (2 ^ w) square, cube) in
         rw row-whole (le-div-iff-mul-le (pow-pos (3 * w - 10)) .1 inside)
 
-    pub row-refused : 1024 ≤ row / 2 ^ (3 * w - 10) → meaning Refused ≡ expansion w v
-    row-refused o = under v (2 ^ w) (λ h. absurd (omega (arith, o, row-ten h, ten-below w v))) (value-refused w v)
+    pub first-refused : 1024 ≤ first → meaning Refused ≡ expansion w v
+    first-refused o = under v (2 ^ w) (λ h. absurd (omega (arith, o, first-ten h, ten-below w v))) (value-refused w v)
 
-    pub row-accepted : row / 2 ^ (3 * w - 10) < 1024 → meaning (Ten (row / 2 ^ (3 * w - 10))) ≡ expansion w v
-    row-accepted o =
-        under v (2 ^ w) (λ h. expansion-ten w v (row-ten h) low (omega arith) h) (λ h. absurd (omega (arith, o, row-over h)))
+    pub first-accepted : first < 1024 → meaning (Ten first) ≡ expansion w v
+    first-accepted o =
+        under v (2 ^ w) (λ h. expansion-ten w v (first-ten h) low (omega arith) h)
+        (λ h. absurd (omega (arith, o, first-over h)))

@@ -1,4 +1,4 @@
--- The expanders, the sheet writer and sheet-to-calls: each judged by its table, and each determined by its promise.
+-- The expander, the sheet writer and sheet-to-calls: each judged by its table, and each determined by its promise.
 -- Assumes nothing.
 use Prim.Native.Nat.{ℕ, zero, suc}
 use mathlib.Core.Path.{_≡_, refl, sym, ap, _∙_}

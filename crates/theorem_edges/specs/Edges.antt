@@ -1,5 +1,5 @@
--- Document 01, "Both sides of each edge": p1 to p12, as one list. The expansions are the outcomes that the expanders
--- promise; a status is what a read of select 4 answers, on every chip in range with so many waiting.
+-- Document 01, "Both sides of each edge": p1 to p12, as one list. The expansions are the outcomes that the expander
+-- promises; a status is what a read of select 4 answers, on every chip in range with so many waiting.
 use Prim.Native.Nat.{ℕ, _*_}
 use mathlib.Core.Path.{_≡_}
 use mathlib.Core.Bool.{true}

@@ -1,6 +1,6 @@
 use Rattle.expand.proofs.Width.{width-refused}
 use Rattle.expand_widths.proofs.Thrice.{eight-refused, eight-listed}
-use Rattle.expand_widths.proofs.Thrice.{once-row, twice-row, row-fits, row-refused, row-accepted}
+use Rattle.expand_widths.proofs.Thrice.{once-row, twice-row, row-fits, first-refused, first-accepted}
 use borrow.Author.Needs.{needs}
 use Rattle.expand_widths.proofs.expand.Statement.{statement}
 use Rattle.expand_widths.proofs.expand.Tie as tie
@@ -15,5 +15,5 @@ expand-spec =
     (λ c. eight-listed _ _ (search needs) (search needs) (search needs) (c .eight-listed .ensures))
     (λ c. search needs) (λ c. search rows) (λ c. search needs) (λ c. search rows) (λ c. search needs)
     (λ c. search needs) (λ c. search needs) (λ c. search needs) (λ c. search needs)
-    (λ c. row-accepted _ (search needs) _ (search needs) (search needs) (search needs))
-    (λ c. row-refused _ (search needs) _ (search needs) (search needs) (search needs)))
+    (λ c. first-accepted _ (search needs) _ (search needs) (search needs) (search needs))
+    (λ c. first-refused _ (search needs) _ (search needs) (search needs) (search needs)))
