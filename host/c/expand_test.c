@@ -1,5 +1,5 @@
-/* The expander, by hand bit by bit: 6 and 8 bits from the rows of Tables 23 and 24 of data sheet 001, as the tables draw
- * them, the others likewise from document 02, P4; and beside plain C (host/plain), which has the rules. */
+/* The expander, by hand bit by bit: 6 and 8 bits from the rows of Tables 23 and 24 of data sheet 001, as the tables
+ * draw them, the others likewise from document 02, P4; and beside plain C (host/plain), which has the rules. */
 #include "check.h"
 
 /* the component's bit that stands at each of the ten places, from place 9 down to place 0 */

@@ -22,9 +22,10 @@
  *  0x8000 to 0x83FF   refused                             a component of the FETCHED entry
  *  any other          refused                             refused
  *
- * A component is written as a byte and expanded to ten bits (zk_expand at width 8). Red and green are latched, and the order
- * moves on; blue stores all three at the index as it then stands, and the order restarts at red. Then, where register
- * 0x000E enables auto-increment for writes, the offset into the palette steps, modulo 1,024: 0x43FF goes to 0x4000.
+ * A component is written as a byte and expanded to ten bits, as zk_expand does at width 8. Red and green are latched,
+ * and the order moves on; blue stores all three at the index as it then stands, and the order restarts at red. Then,
+ * where register 0x000E enables auto-increment for writes, the offset into the palette steps, modulo 1,024: 0x43FF goes
+ * to 0x4000.
  *
  * A component is read as the fetched entry's ten bits divided by 4, floored, and the order moves on. After blue it
  * restarts, and where auto-increment is enabled for reads the offset steps likewise and that entry is fetched; else

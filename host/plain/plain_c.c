@@ -1,5 +1,5 @@
-/* Chip C and the expander in plain C, from document 01, "Chip C", and document 02, P4 and P5. The expander is the rules,
- * not a table. */
+/* Chip C and the expander in plain C, from document 01, "Chip C", and document 02, P4 and P5. The expander is the
+ * rules, not a table. */
 #include "plain.h"
 
 static uint16_t linear8(unsigned v) { return (uint16_t)(v << 2 | v >> 6); }

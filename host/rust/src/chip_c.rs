@@ -246,8 +246,11 @@ mod tests {
         for (width, component, ten) in [(4, 3, 204), (4, 4, 273), (4, 15, 1_023), (5, 1, 33), (7, 16, 129)] {
             assert_eq!(expand(width, component), value(ten as u16));
         }
-        for (width, component) in [(4, 16), (5, 32), (6, 64), (7, 128), (8, 256), (3, 0), (9, 0), (0, 0), (6, u32::MAX)] {
+        for (width, component) in [(4, 16), (5, 32), (6, 64), (7, 128), (8, 256), (6, u32::MAX)] {
             assert_eq!(expand(width, component), refused(9));
+        }
+        for width in [0, 3, 9, 12, u32::MAX] {
+            assert_eq!(expand(width, 0), refused(9));
         }
     }
 

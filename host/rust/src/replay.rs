@@ -6,8 +6,8 @@
 //! - Every answer line ends in LF, also the answer to a last log line that lacks it.
 //! - The parts of a line stand together without spaces, as `w4=00` in document 01's list shows.
 //! - A select digit of 8 to f is well formed: its call refuses 3. So is an overlay number or mode digit over 3, a word
-//!   over 24 bits, a number of slots over 16 bits, a width of `expand=` that is not there, and a component wider than it
-//!   says: their calls refuse 9.
+//!   over 24 bits, a number of slots over 16 bits, a width of `expand=` that is not there, and a component wider than
+//!   that: their calls refuse 9.
 //! - B's reset answers `ok`, as every reset; every accepted write on B tells its count, whatever the select.
 //! - Any five digits are a well formed `look=`: a place that is not there is refused by its call.
 use crate::answer::Answer;
