@@ -1,12 +1,12 @@
 -- Each width's rule, and one rule for all of them. Assumes nothing.
 use Prim.Native.Nat.{ℕ, _+_, _*_, _/_, _-_, _^_, _≤_, _<_}
 use mathlib.Core.Path.{_≡_, refl, sym, ap, _∙_}
-use native.Mathlib.Nat.{mul-comm, mul-assoc, mul-add, zero-add, div-one}
+use native.Mathlib.Nat.{mul-comm, mul-assoc, mul-add}
 use native.Mathlib.Omega.{arith}
 use lib.Pow.{pow-add}
 use Rattle.expand.specs.Expand.{filled, ten}
 use Rattle.expand.proofs.Filled.{filled-part, filled-first}
-use Rattle.expand.proofs.Width.{filled-more, ten-parts}
+use Rattle.expand.proofs.Width.{filled-whole, filled-more, ten-parts}
 
 module _ (v : ℕ) where
   -- the component, and so many of its bits as are missing
@@ -33,10 +33,9 @@ module _ (v : ℕ) where
   unfolding ten
   ten-thrice w low h =
       let p = 2 ^ w in
-      let once : filled w v w ≡ v = filled-first w v h 0 w (zero-add w) ∙ div-one v in
       let shared : (v * p + v) * p ≡ p * p * v + p * v =
       rw (mul-comm (v * p + v) p, mul-add p (v * p) v, mul-comm v p, mul-assoc p p v) refl in
       let row : filled w v (w + (w + w)) ≡ (v * p + v) * p + v =
-      rw (filled-more w v h (w + w), filled-more w v h w, once, pow-add 2 w w, shared) (omega arith) in
+      rw (filled-more w v h (w + w), filled-more w v h w, filled-whole w v h, pow-add 2 w w, shared) (omega arith) in
       let places : w + (w + w) ≡ 10 + (3 * w - 10) = omega arith in
       sym (rw (sym row) (ap (λ (n : ℕ). filled w v n / 2 ^ (3 * w - 10)) places ∙ filled-part w v 10 (3 * w - 10)))

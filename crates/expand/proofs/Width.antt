@@ -67,9 +67,12 @@ unfolding ten
 ten-largest w h = filled-ones w 10 h
 
 module _ (w v : ℕ) (h : v < 2 ^ w) where
-  -- the component and then the first n bits of it
+  -- its w bits are the component; and then come the first n of them
+  pub filled-whole : filled w v w ≡ v
+  filled-whole = filled-first w v h 0 w (zero-add w) ∙ div-one v
+
   pub filled-more : (n : ℕ) → filled w v (w + n) ≡ 2 ^ n * v + filled w v n
-  filled-more n = rw (filled-again w v n, filled-first w v h 0 w (zero-add w), div-one v) refl
+  filled-more n = rw (filled-again w v n, filled-whole) refl
 
   pub ten-parts : w ≤ 10 → ten w v ≡ 2 ^ (10 - w) * v + filled w v (10 - w)
   unfolding ten

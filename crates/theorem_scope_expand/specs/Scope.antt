@@ -7,10 +7,6 @@ use mathlib.Core.Path.{_≡_}
 use Rattle.vocabulary.specs.Line.{line}
 use Rattle.vocabulary.specs.Outcome.{Outcome, accepting, refusing}
 
--- "from 4 to 8": both of them too
-abbrev pub FromTo : ℕ → ℕ → ℕ → Type 0
-FromTo first last n = (first ≤ n) × (n ≤ last)
-
 -- 02, P4: "The expander takes a width from 4 to 8 and repeats the component's bits from the top until ten are filled"
 pub record Scope (called : ℕ → ℕ → Outcome Unit) : Type 0 where
   -- 02, P4: "4 bits as 64v + 4v + floor(v/4), 5 bits as 33v"
@@ -23,7 +19,7 @@ pub record Scope (called : ℕ → ℕ → Outcome Unit) : Type 0 where
   -- 01: "8 bits as 4v + floor(v/64)"
   pub eight : (v : ℕ) → v < 256 → called 8 v ≡ accepting (4 * v + v / 64) 0 tt
   -- 02, P4: "9 for a width outside 4 to 8, or a value of 2 to the width or more"
-  pub nine-width : (w v : ℕ) → ¬ FromTo 4 8 w → called w v ≡ refusing 9 0 tt
+  pub nine-width : (w v : ℕ) → ¬ ((4 ≤ w) × (w ≤ 8)) → called w v ≡ refusing 9 0 tt
   pub nine-value : (w v : ℕ) → 2 ^ w ≤ v → called w v ≡ refusing 9 0 tt
 
 -- ---- What every width has, of any function from components of w bits to ten

@@ -1,5 +1,5 @@
 // What documents 01 and 02 say of the expander, row by row, as one statement that no other expander meets. No code.
 //
-// specs/Scope.antt has their sentences in their words and numbers, over any `expanding`; proofs/Scope.antt shows that
-// the expander meets them, and that one that does is that expander, and has what every width shares. Not modelled: as
-// in expand.
+// specs/Scope.antt has their sentences in their words and numbers, over any `called`, and what every width has;
+// proofs/Scope.antt shows that the expander meets both, and that one that meets the sentences is that expander. Not
+// modelled: as in expand.
