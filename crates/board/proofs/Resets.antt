@@ -12,8 +12,7 @@ use Rattle.hd153108.specs.declared.State as AS
 use Rattle.hd153108.specs.declared.Answer as AA
 use Rattle.ms622424.specs.Ms622424 as B
 use Rattle.ms622424.proofs.Reset.{reset-does}
-use Rattle.ms622424_places.specs.Places.{handed, view, outcome, Does, Same}
-use Rattle.ms622424_places.proofs.Determined.{does-same}
+use Rattle.ms622424_places.specs.Places.{handed, view, outcome, Does}
 use Rattle.ms622424_places.specs.declared.State as BS
 use Rattle.ms622424_places.specs.declared.Answer as BA
 use Rattle.rgb640.specs.Rgb640 as C
@@ -40,20 +39,15 @@ pub c-zeroed : {r : CA.Answer} (s : CS.State)
 unfolding calledBy refusalOf answeredAt
 c-zeroed s e = ap (λ (o : Outcome C.Chip). o .left .state) (e [])
 
-pub b-left : {r : BA.Answer} {s : BS.State} (queue after : List ℕ) → s ≡ revised
-    → ((m : List ℕ) → Does (handed s queue m) (outcome r after m) (B.called B.resets)) → (map : List ℕ)
-    → view (handed (r .state) after map) ≡ B.called B.resets (view (handed revised queue map)) .left
-b-left queue after is e map = ap (λ (o : Outcome B.Chip). o .left) (rw is at (e map .chip))
+pub b-left : {r : BA.Answer} {s : BS.State} (queue : List ℕ) → s ≡ revised
+    → ((m : List ℕ) → Does (handed s queue m) (outcome r queue m) (B.called B.resets)) → (map : List ℕ)
+    → view (handed (r .state) queue map) ≡ B.called B.resets (view (handed revised queue map)) .left
+b-left queue is e map = ap (λ (o : Outcome B.Chip). o .left) (rw is at (e map .chip))
 
-pub b-same : {r : BA.Answer} {s : BS.State} (queue after : List ℕ) → s ≡ revised
-    → ((m : List ℕ) → Does (handed s queue m) (outcome r after m) (B.called B.resets)) → (map : List ℕ)
-    → Same (handed revised queue map) (handed (r .state) after map)
-b-same queue after is e map = does-same B.resets _ _ (rw is at (e map))
-
-pub starts : {sa : AS.State} (sb : BS.State) {sc : CS.State} (queue after : List ℕ) → sa ≡ A.zeroed
-    → ((m : List ℕ) → view (handed sb after m) ≡ B.called B.resets (view (handed revised queue m)) .left)
+pub starts : {sa : AS.State} (sb : BS.State) {sc : CS.State} (queue : List ℕ) → sa ≡ A.zeroed
+    → ((m : List ℕ) → view (handed sb queue m) ≡ B.called B.resets (view (handed revised queue m)) .left)
     → sc ≡ C.zeroed → (a : A.Chip) (map : List ℕ) (c : C.Chip) (page : List ℕ)
-    → whole (record { a = sa; b = sb; c = sc; chosen = ChipA }) (a .colours) (a .overlays) after map (c .table) page
+    → whole (record { a = sa; b = sb; c = sc; chosen = ChipA }) (a .colours) (a .overlays) queue map (c .table) page
     ≡ started a queue map c page
 unfolding calledBy refusalOf answeredAt
-starts sb queue after ea eb ec a map c page = rw (ea, eb map, ec)
+starts sb queue ea eb ec a map c page = rw (ea, eb map, ec)

@@ -83,7 +83,7 @@ revised = record {
   port = record { address = 0; counter = 0; red = 0; green = 0 };
   control = record { command = 0; readmode = 0 };
   ident = record { revision = 3; board = 5 };
-  fifo = record { waiting = 0 };
+  fifo = record { first = 0; waiting = 0 };
 }
 
 -- every state as a reset leaves it, whatever A's and C's were before; chip A is chosen

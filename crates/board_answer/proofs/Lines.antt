@@ -2,8 +2,6 @@
 use Prim.Native.Nat.{ℕ}
 use mathlib.Core.Path.{_≡_}
 use mathlib.Core.List.{List}
-use Rattle.ms622424_places.specs.Places.{handed, Same}
-use Rattle.ms622424_places.proofs.Determined.{same-self}
 use Rattle.log.specs.declared.Chip.{Chip}
 use Rattle.log.specs.declared.Call.{Call}
 use Rattle.log.specs.declared.Line.{Line}
@@ -48,15 +46,3 @@ module _ {line : Line} {r : Step} (s : Board) (cs os queue map table page : List
   unfolding boardTurn
   line-chooses {chip} m e f h =
       rw (m, e, f) (took-text page (whole (chosenBoard chip s) cs os queue map table page) h)
-
--- chip B's bytes, where a line calls no chip
-module _ (r : Step) (s : Board) (queue map : List ℕ) where
-  pub same-board : r .board ≡ s → Same (handed (s .b) queue map) (handed (r .board .b) queue map)
-  same-board e = rw e (same-self _)
-
-  pub same-plain : {text : Text} → r ≡ step s text 0 → Same (handed (s .b) queue map) (handed (r .board .b) queue map)
-  same-plain e = rw e (same-self _)
-
-  pub same-chosen : {chip : Chip} {t : Board} {text : Text} → r ≡ step t text 0 → t ≡ chosenBoard chip s
-      → Same (handed (s .b) queue map) (handed (r .board .b) queue map)
-  same-chosen e f = rw (e, f) (same-self _)

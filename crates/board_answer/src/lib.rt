@@ -1,16 +1,13 @@
 // Any log line on the board: its call made, and its whole answer.
 //
-// The replay's description decides; `answer` equals `boardTurn` of board's specs/Board.antt for any board, line, tables
-// and page. The tables and the page are lent. Not modelled: as there.
+// The replay's description decides; `answer` equals `boardTurn` of board's specs/Board.antt for any board, line,
+// tables and page. The tables and the page are lent. Not modelled: as there.
 use answers::Text;
 use board::Board;
 use board::Step;
 use log::Chip;
 use log::Line;
 ghost use mathlib.Core.Path.{_≡_};
-ghost use Prim.Native.Nat.{ℕ};
-ghost use mathlib.Core.List.{List};
-ghost use Rattle.ms622424_places.specs.Places.{handed, Same};
 ghost use Rattle.board.specs.Board.{whole, step, boardTurn, StepTook};
 ghost use Rattle.board_answer.specs.Chosen.{chosenBoard};
 
@@ -53,8 +50,6 @@ pub fn answer(
         (whole board (now (colours .entry)) (now (overlays .entry)) (now (queue .entry))
         (now (map .entry)) (now (table .entry))
         (now (page .entry)))) ⌝ }
-    ensures { λ r. ⌜ Same (handed (board .b) (now (queue .entry)) (now (map .entry)))
-        (handed (r .board .b) (now (queue .exit)) (now (map .exit))) ⌝ }
 {
     match line {
         Line::To(c) => board_call::call(board, c, colours, overlays, queue, map, table),

@@ -3,8 +3,7 @@ use Prim.Native.Nat.{ℕ}
 use mathlib.Core.Path.{_≡_}
 use mathlib.Core.List.{List}
 use Rattle.hd153108.specs.Hd153108 as A
-use Rattle.ms622424_places.specs.Places.{handed, view, Same}
-use Rattle.ms622424_places.proofs.Determined.{same-self}
+use Rattle.ms622424_places.specs.Places.{handed, view}
 use Rattle.rgb640.specs.Rgb640 as C
 use Rattle.log.specs.declared.Chip as L
 use Rattle.log.specs.declared.Chip.the-variants.{ChipA, ChipB, ChipC}
@@ -39,16 +38,3 @@ module _ (s : Board) (call : Call) {k : L.Chip} {r : Step} (page : List ℕ) whe
       → StepTook r cs os queue map table' page (chipTurn k call (whole s cs os queue map table page))
   turned-c table table' cs os queue map m e t =
       let w = whole s cs os queue map table page in rw e (call-at w m call (took-turned page (withC w) t))
-
--- chip B's bytes: another chip's turn leaves them, and its own has kept them where the chip is the same
-module _ (s : Board) {r : Step} (queue map : List ℕ) where
-  pub same-a : {t : ATurn} → r ≡ aStep s t → Same (handed (s .b) queue map) (handed (r .board .b) queue map)
-  same-a e = rw e (same-self _)
-
-  pub same-b : {t : BTurn} (queue' map' : List ℕ) → r ≡ bStep s t
-      → Same (handed (s .b) queue map) (handed (t .state) queue' map')
-      → Same (handed (s .b) queue map) (handed (r .board .b) queue' map')
-  same-b queue' map' e h = rw e h
-
-  pub same-c : {t : CTurn} → r ≡ cStep s t → Same (handed (s .b) queue map) (handed (r .board .b) queue map)
-  same-c e = rw e (same-self _)

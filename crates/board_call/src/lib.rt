@@ -12,7 +12,6 @@ use turns_c::CTurn;
 ghost use mathlib.Core.Path.{_≡_};
 ghost use Prim.Native.Nat.{ℕ};
 ghost use mathlib.Core.List.{List};
-ghost use Rattle.ms622424_places.specs.Places.{handed, Same};
 ghost use Rattle.board.specs.Board.{whole, chipTurn, StepTook};
 ghost use Rattle.board_call.specs.Steps.{aStep, bStep, cStep};
 
@@ -75,8 +74,6 @@ pub fn call(
         (chipTurn (board .chosen) call
         (whole board (now (colours .entry)) (now (overlays .entry)) (now (queue .entry))
         (now (map .entry)) (now (table .entry)) page))) ⌝ }
-    ensures { λ r. ⌜ Same (handed (board .b) (now (queue .entry)) (now (map .entry)))
-        (handed (r .board .b) (now (queue .exit)) (now (map .exit))) ⌝ }
 {
     let chosen = board.chosen;
     match chosen {

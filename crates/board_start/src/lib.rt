@@ -12,7 +12,7 @@ ghost use Prim.Native.Nat.{ℕ};
 ghost use mathlib.Core.List.{List};
 ghost use Rattle.hd153108.specs.Hd153108.{Chip as AChip, zeroed as aZeroed};
 ghost use Rattle.ms622424.specs.Ms622424.{resets as bResets, called as bCalled};
-ghost use Rattle.ms622424_places.specs.Places.{handed, view, Same};
+ghost use Rattle.ms622424_places.specs.Places.{handed, view};
 ghost use Rattle.rgb640.specs.Rgb640.{Chip as CChip, zeroed as cZeroed};
 ghost use Rattle.board.specs.Board.{whole, revised, started};
 
@@ -57,7 +57,10 @@ fn b_given() -> BState
         revision: 3,
         board: 5,
     };
-    let fifo = ms622424_places::Fifo { waiting: 0 };
+    let fifo = ms622424_places::Fifo {
+        first: 0,
+        waiting: 0,
+    };
     BState {
         port: port,
         control: control,
@@ -66,11 +69,9 @@ fn b_given() -> BState
     }
 }
 
-fn b_start(queue: &mut [u64]) -> BState
-    ensures { λ r. ⌜ ((map : List ℕ) → view (handed r (now (queue .exit)) map)
+fn b_start(queue: &[u64]) -> BState
+    ensures { λ r. ⌜ ((map : List ℕ) → view (handed r (now (queue .entry)) map)
         ≡ bCalled bResets (view (handed revised (now (queue .entry)) map)) .left) ⌝ }
-    ensures { λ r. ⌜ ((map : List ℕ)
-        → Same (handed revised (now (queue .entry)) map) (handed r (now (queue .exit)) map)) ⌝ }
 {
     let r = ms622424_reset::zk_b_reset(b_given(), queue);
     let s = r.state;
@@ -100,12 +101,10 @@ fn c_start() -> CState
 }
 
 // The board at the start.
-pub fn start(queue: &mut [u64]) -> Board
+pub fn start(queue: &[u64]) -> Board
     ensures { λ r. ⌜ ((a : AChip) (map : List ℕ) (c : CChip) (page : List ℕ)
-        → whole r (a .colours) (a .overlays) (now (queue .exit)) map (c .table) page
+        → whole r (a .colours) (a .overlays) (now (queue .entry)) map (c .table) page
         ≡ started a (now (queue .entry)) map c page) ⌝ }
-    ensures { λ r. ⌜ ((map : List ℕ)
-        → Same (handed revised (now (queue .entry)) map) (handed (r .b) (now (queue .exit)) map)) ⌝ }
 {
     let a = a_start();
     let b = b_start(queue);

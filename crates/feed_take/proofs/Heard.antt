@@ -7,8 +7,6 @@ use mathlib.Core.List.{List, []}
 use lib.ListN.{length, take}
 use borrow.Author.Tests.{ltb-true, ltb-false}
 use Rattle.vocabulary.specs.Choice.{pick}
-use Rattle.ms622424_places.specs.Places.{handed, Same}
-use Rattle.ms622424_places.proofs.Determined.{same-self}
 use Rattle.answers.specs.Answers.{Says}
 use Rattle.turns.specs.Turns.{Took}
 use Rattle.board.specs.declared.Board.{Board}
@@ -47,7 +45,3 @@ module _ {s : Step} {k : Heard} (t bytes : List ℕ) (h : Hold) (cs os queue map
         says = says-text b (s .text) page u;
         leaves = ap (desk (whole b cs os queue map table page)) m;
       })
-
--- chip B's bytes
-pub same-part : {a b : Board} (queue map : List ℕ) → a ≡ b → Same (handed (b .b) queue map) (handed (a .b) queue map)
-same-part queue map f = rw f (same-self _)

@@ -1,6 +1,6 @@
 -- A chip in range stays in range, whatever the call; pixels, timing signals and looks leave it as it is. Assumes
 -- nothing.
-use Prim.Native.Nat.{ℕ, _^_, _<_}
+use Prim.Native.Nat.{ℕ, _^_, _<_, min}
 use mathlib.Core.Path.{_≡_, refl, sym, subst, _∙_}
 use mathlib.Core.Bool.{true}
 use mathlib.Core.List.{List, [], _∷_, _++_}
@@ -16,19 +16,23 @@ use Rattle.vocabulary.proofs.Range.{passes-holds, pair, clash}
 use Rattle.vocabulary.proofs.Every.{every-append, every-one, every-drop}
 use Rattle.vocabulary.proofs.Face.{called-clear, called-does, called-holds}
 use Rattle.vocabulary.proofs.Run.{unnoticed}
-use Rattle.ms622424.specs.Ms622424.{Chip, Entry, withPort, withQueue, lengths, queueLengths, inMap, identRanges}
-use Rattle.ms622424.specs.Ms622424.{ranges, InRange, selected, stepped, completed, complete, Moves, moves}
+use Rattle.ms622424.specs.Ms622424.{Chip, Entry, withPort, withQueue, withFirst, lengths, queueLengths, inMap}
+use Rattle.ms622424.specs.Ms622424.{identRanges, ranges, InRange, selected, stepped, completed, complete}
+use Rattle.ms622424.specs.Ms622424.{Moves, moves}
 use Rattle.ms622424.specs.Ms622424.{roomMade, taken, written, bufferStepped, answers, fresh, registerAt}
 use Rattle.ms622424.specs.Ms622424.{Register, addressLow, addressHigh, palette, command, status, buffer}
 use Rattle.ms622424.specs.Ms622424.{revision, initialization, none, Call, writes, reads, blanks, pixels}
 use Rattle.ms622424.specs.Ms622424.{signals, resets, looks, isPixel, isSignals, isLook, refusals, does, called}
 use Rattle.ms622424.proofs.InRange.{in-range}
-use Rattle.ms622424.proofs.Moves.{all-stored-length, moves-are, room-cases, room-space}
+use Rattle.ms622424.proofs.Moves.{first-below, all-stored-length, moves-are, room-cases, room-space}
 
 -- ---- a part anew
 queue-kept : (es : List Entry) (m : List ℕ) (c : Chip) → InRange c → length m ≡ length (c .map) → length es < 65
     → every inMap es ≡ true → InRange (withQueue es m c)
 queue-kept es m c h l n e = let size = l ∙ h .size in search
+
+first-kept : (n : ℕ) (c : Chip) → InRange c → n < 64 → InRange (withFirst n c)
+first-kept n c h l = search
 
 stepped-kept : (k : Component) (c : Chip) → InRange c → InRange (withPort (stepped k (c .port)) c)
 unfolding stepped
@@ -46,8 +50,10 @@ buffer-kept blue c h = h
 moves-kept : (slots : ℕ) (c : Chip) → InRange c → InRange (moves slots c .after)
 moves-kept slots c h =
     let few = h .few in
+    let k = min slots (length (c .waiting)) in
+    let on = first-kept _ c h (first-below k (c .lent .first) (h .first)) in
     subst (λ (m : Moves). InRange (m .after)) (sym (moves-are slots c))
-    (queue-kept (drop slots (c .waiting)) _ c h (all-stored-length (take slots (c .waiting)) (c .map))
+    (queue-kept (drop slots (c .waiting)) _ _ on (all-stored-length (take slots (c .waiting)) (c .map))
     (simp length-drop (omega arith)) (every-drop inMap slots (c .waiting) (h .in-map)))
 
 taken-kept : (k : Component) (byte : ℕ) (c : Chip) → InRange c → length (c .waiting) < 64 → byte < 256
@@ -164,10 +170,10 @@ looks-unnoticed = unnoticed called isLook look-stays
 
 -- AN ACCEPTED CALL leaves the lent places as they should be
 abbrev pub InOrder : Chip → Type 0
-InOrder c = (c .lent .places ≡ 64) × (c .lent .right ≡ true)
+InOrder c = (c .lent .places ≡ 64) × (c .lent .first < 64)
 
 in-order : (k : Call) (c : Chip) → Holds (lengths c) → Holds (ranges c) → InOrder (called k c .left)
-in-order k c l r = let h = called-keeps-range k c (in-range c l r) in (h .places, h .right)
+in-order k c l r = let h = called-keeps-range k c (in-range c l r) in (h .places, h .first)
 
 pub accepted-in-order : (k : Call) (c : Chip) → called k c .refusal ≡ 0 → InOrder (called k c .left)
 accepted-in-order (writes select byte) c a =
@@ -190,7 +196,7 @@ accepted-in-order (signals s) c a =
 accepted-in-order resets c a =
     let t = called-clear refusals does resets c a in
     subst (λ (o : Outcome Chip). InOrder (o .left)) (sym (called-does refusals does resets c a))
-    (passes-holds (queueLengths c) (t .0) .0, refl)
+    (passes-holds (queueLengths c) (t .0) .0, omega arith)
 accepted-in-order (looks place) c a =
     let t = called-clear refusals does (looks place) c a in
     in-order (looks place) c (passes-holds _ (t .0)) (passes-holds (ranges c) (t .1 .0))

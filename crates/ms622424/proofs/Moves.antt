@@ -1,5 +1,5 @@
 -- Laws of the moves and of the map under stores. Assumes nothing.
-use Prim.Native.Nat.{ℕ, zero, suc, _+_, _*_, _<_, min}
+use Prim.Native.Nat.{ℕ, zero, suc, _+_, _*_, _%_, _<_, min}
 use mathlib.Core.Path.{_≡_, refl, sym, ap, subst, _∙_}
 use mathlib.Core.List.{List, [], _∷_, _++_}
 use native.Mathlib.Omega.{arith}
@@ -10,8 +10,8 @@ use lib.Seq.{take-nil, drop-nil}
 use Rattle.vocabulary.specs.Component.{Component, part, oneOf}
 use Rattle.vocabulary.proofs.Choice.{cases, picks-first, picks-second}
 use Rattle.vocabulary.proofs.Component.{put-length, put-own}
-use Rattle.ms622424.specs.Ms622424.{Chip, withQueue, Entry, InRange, stored, allStored, complete, Moves, made}
-use Rattle.ms622424.specs.Ms622424.{slotted, moves, roomMade}
+use Rattle.ms622424.specs.Ms622424.{Chip, withQueue, withFirst, Entry, InRange, stored, allStored, complete}
+use Rattle.ms622424.specs.Ms622424.{Moves, made, nextFirst, slotted, moves, roomMade}
 
 -- a stored colour is found in its entry, component by component
 pub stored-own : (e : Entry) (m : List ℕ) → 3 * e .address + 2 < length m → (k : Component)
@@ -38,19 +38,38 @@ pub complete-keeps-map : (e : Entry) (c : Chip) → complete e c .map ≡ c .map
 unfolding complete
 complete-keeps-map e c = refl
 
+-- the first position after k moves
+unfoldable pub firstAfter : ℕ → ℕ → ℕ
+firstAfter zero n = n
+firstAfter (suc k) n = firstAfter k (nextFirst n)
+
+pub first-after : (k n : ℕ) → n < 64 → firstAfter k n ≡ (n + k) % 64
+unfolding firstAfter
+first-after zero n h = omega arith
+first-after (suc k) n h = first-after k (nextFirst n) (omega arith) ∙ omega arith
+
+pub first-below : (k n : ℕ) → n < 64 → firstAfter k n < 64
+first-below k n h = let e = first-after k n h in omega arith
+
 -- THE SLOTS are the budget: the smaller of slots and waiting move, the oldest, in their order
+abbrev pub movedOn : ℕ → List Entry → List ℕ → Chip → Chip
+movedOn k es m c = withQueue es m (withFirst (firstAfter k (c .lent .first)) c)
+
 abbrev pub movesOf : ℕ → Chip → Moves
 movesOf slots c =
-    made (min slots (length (c .waiting)))
-    (withQueue (drop slots (c .waiting)) (allStored (take slots (c .waiting)) (c .map)) c)
+    let k = min slots (length (c .waiting)) in
+    made k (movedOn k (drop slots (c .waiting)) (allStored (take slots (c .waiting)) (c .map)) c)
 
 slotted-are : (slots : ℕ) (es : List Entry) (c : Chip) → slotted slots es c ≡ movesOf slots (withQueue es (c .map) c)
-unfolding slotted allStored
-slotted-are zero es c = ap (λ (n : ℕ). made n (withQueue es (c .map) c)) (omega arith)
-slotted-are (suc slots) [] c = ap (λ (n : ℕ). made n (withQueue [] (c .map) c)) (omega arith)
+unfolding slotted allStored firstAfter
+slotted-are zero es c = let e : min 0 (length es) ≡ 0 = omega arith in rw e refl
+slotted-are (suc slots) [] c = let e : min (suc slots) 0 ≡ 0 = omega arith in rw e refl
 slotted-are (suc slots) (e ∷ es) c =
-    ap (λ (m : Moves). made (m .count + 1) (m .after)) (slotted-are slots es (withQueue es (stored e (c .map)) c))
-    ∙ ap (λ (n : ℕ). made n (withQueue (drop slots es) (allStored (take slots es) (stored e (c .map))) c)) (omega arith)
+    let k : min (suc slots) (suc (length es)) ≡ suc (min slots (length es)) = omega arith in
+    let one : min slots (length es) + 1 ≡ suc (min slots (length es)) = omega arith in
+    ap (λ (m : Moves). made (m .count + 1) (m .after))
+    (slotted-are slots es (withQueue es (stored e (c .map)) (withFirst (nextFirst (c .lent .first)) c)))
+    ∙ rw (k, one) refl
 
 pub moves-are : (slots : ℕ) (c : Chip) → moves slots c ≡ movesOf slots c
 unfolding moves
@@ -73,7 +92,7 @@ module _ {A : Type 0} where
       rw e (drop-least n l)
 
 pub moves-least : (slots k : ℕ) (c : Chip) → k ≡ min slots (length (c .waiting))
-    → moves slots c ≡ made k (withQueue (drop k (c .waiting)) (allStored (take k (c .waiting)) (c .map)) c)
+    → moves slots c ≡ made k (movedOn k (drop k (c .waiting)) (allStored (take k (c .waiting)) (c .map)) c)
 moves-least slots k c e =
     let t = take-least slots (c .waiting) in
     let d = drop-least slots (c .waiting) in
@@ -97,10 +116,17 @@ module _ (c : Chip) where
       (λ e. subst P (sym (picks-second (moves 4 c) (made 0 c) e)) b)
 
   -- it keeps all but the queue and the map, ..
-  pub room-keeps : (A : Type 0) (f : Chip → A) → ((es : List Entry) (m : List ℕ) → f (withQueue es m c) ≡ f c)
+  pub room-keeps : (A : Type 0) (f : Chip → A)
+      → ((es : List Entry) (m : List ℕ) (n : ℕ) → f (withQueue es m (withFirst n c)) ≡ f c)
       → f (roomMade c .after) ≡ f c
   room-keeps A f k =
-      room-cases (λ (m : Moves). f (m .after) ≡ f c) (ap (λ (m : Moves). f (m .after)) (moves-are 4 c) ∙ k _ _) refl
+      room-cases (λ (m : Moves). f (m .after) ≡ f c) (ap (λ (m : Moves). f (m .after)) (moves-are 4 c) ∙ k _ _ _) refl
+
+  -- .. with the first position a place, ..
+  pub room-first : InRange c → roomMade c .after .lent .first < 64
+  room-first h =
+      room-cases (λ (m : Moves). m .after .lent .first < 64)
+      (rw (moves-are 4 c) (first-below (min 4 (length (c .waiting))) (c .lent .first) (h .first))) (h .first)
 
   -- .. and leaves a free location
   pub room-space : InRange c → length (roomMade c .after .waiting) < 64

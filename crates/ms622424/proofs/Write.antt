@@ -47,7 +47,7 @@ pub palette-written : (byte : ℕ) (c : Chip) {n : ℕ} {room left : Chip} → m
 unfolding written
 palette-written byte c {n} {room} {left} e l =
     let same : room .port ≡ c .port = ap (λ (m : Moves). m .after .port) e
-    ∙ room-keeps c Port (λ d. d .port) (λ es m. refl) in
+    ∙ room-keeps c Port (λ d. d .port) (λ es m n. refl) in
     ap (accepting 0 n) l
     ∙ (ap (λ (p : Port). accepting 0 n (taken (selected p) byte room)) same
     ∙ ap (λ (m : Moves). accepting 0 (m .count) (taken (selected (c .port)) byte (m .after))) e)

@@ -40,10 +40,10 @@ pub record Entry : Type 0 where
   pub green : ℕ
   pub blue : ℕ
 
--- what refusals 1 and 9 ask of the places that the queue is kept in: how many are lent, and are they as they should be
+-- the queue's places, a ring (request P7): how many are lent, and the first position, that of the oldest entry
 pub record Lent : Type 0 where
   pub places : ℕ
-  pub right : Bool
+  pub first : ℕ
 
 pub record Chip : Type 0 where
   pub port : Port
@@ -53,7 +53,7 @@ pub record Chip : Type 0 where
   pub waiting : List Entry
   -- 8,192 entries of three bytes, red first
   pub map : List ℕ
-  -- (not the chip's: what the caller's 64 places say of themselves)
+  -- (not the chip's: how the caller's 64 places stand)
   pub lent : Lent
 
 -- ---- Not the chip: a chip with another part, the rest as it was
@@ -76,6 +76,10 @@ withControl d c = chip (c .port) d (c .ident) (c .waiting) (c .map) (c .lent)
 
 abbrev pub withQueue : List Entry → List ℕ → Chip → Chip
 withQueue waiting map c = chip (c .port) (c .control) (c .ident) waiting map (c .lent)
+
+abbrev pub withFirst : ℕ → Chip → Chip
+withFirst n c =
+    chip (c .port) (c .control) (c .ident) (c .waiting) (c .map) (record { places = c .lent .places; first = n })
 
 abbrev pub port : ℕ → ℕ → ℕ → ℕ → Port
 port address counter r g = record { address = address; counter = counter; red = r; green = g }
@@ -111,10 +115,13 @@ inMap e = ltb (e .address) entries
 abbrev pub identRanges : Ident → List Bound
 identRanges i = below (i .revision) 8 ∷ below (i .board) 16 ∷ []
 
--- the places are as they should be, no more than 64 colours wait, and every waiting address is one of the map's
+-- the first position is a place, no more than 64 colours wait, and every waiting address is one of the map's
 abbrev pub queueRanges : Chip → List Bound
 queueRanges c =
-    tested (c .lent .right) ∷ below (length (c .waiting)) (places + 1) ∷ tested (every inMap (c .waiting)) ∷ []
+    below (c .lent .first) places ∷
+    below (length (c .waiting)) (places + 1) ∷
+    tested (every inMap (c .waiting)) ∷
+    []
 
 -- command bits 5 to 7 are zero; read mode is 0 or 1
 abbrev pub ranges : Chip → List Bound
@@ -185,12 +192,16 @@ pub record Moves : Type 0 where
 abbrev pub made : ℕ → Chip → Moves
 made count after = record { count = count; after = after }
 
+-- the first position steps by one, modulo 64, for each entry moved
+abbrev pub nextFirst : ℕ → ℕ
+nextFirst n = (n + 1) % places
+
 -- each slot moves the oldest waiting entry, if one waits, into the map
 unfoldable pub slotted : ℕ → List Entry → Chip → Moves
 slotted zero es c = made 0 (withQueue es (c .map) c)
 slotted (suc slots) [] c = made 0 (withQueue [] (c .map) c)
 slotted (suc slots) (e ∷ es) c =
-    let m = slotted slots es (withQueue es (stored e (c .map)) c) in
+    let m = slotted slots es (withQueue es (stored e (c .map)) (withFirst (nextFirst (c .lent .first)) c)) in
     made (m .count + 1) (m .after)
 
 unfoldable pub moves : ℕ → Chip → Moves
@@ -370,15 +381,17 @@ signalRefusals s c = (lentLength when shortQueue c) ∷ (outOfRange when fails (
 
 -- ---- RSB: reset
 
--- "resets command register bits CB2–CB7 and sets bits CB0–CB1"; queue empty; map, revision and board number kept
+-- "resets command register bits CB2–CB7 and sets bits CB0–CB1"; queue empty, its first position 0; map, revision and
+-- board number kept
 abbrev pub fresh : Chip → Chip
-fresh c = chip (port 0 0 0 0) (control 3 0) (c .ident) [] (c .map) (record { places = c .lent .places; right = true })
+fresh c = chip (port 0 0 0 0) (control 3 0) (c .ident) [] (c .map) (record { places = c .lent .places; first = 0 })
 
 -- a reset is lent no map, and reads revision and board number alone
 abbrev pub resetRefusals : Chip → List Row
 resetRefusals c = (lentLength when shortQueue c) ∷ (outOfRange when fails (identRanges (c .ident))) ∷ []
 
--- ---- The places of a look (request P5): the registers, how many colours wait, and each byte of the map as stored
+-- ---- The places of a look (request P5): the registers, how many colours wait, the queue's first position, and each
+-- byte of the map as stored
 
 abbrev pub lookPlaces : Chip → List Block
 lookPlaces c =
@@ -391,6 +404,7 @@ lookPlaces c =
     (0x6 has c .ident .revision) ∷
     (0x7 has c .ident .board) ∷
     (0x8 has length (c .waiting)) ∷
+    (0xC has c .lent .first) ∷
     (0x10000 holds c .map) ∷
     []
 
@@ -467,7 +481,7 @@ pub record InRange (c : Chip) : Type 0 where
   pub readmode : c .control .readmode < 2
   pub revision : c .ident .revision < 8
   pub board : c .ident .board < 16
-  pub right : c .lent .right ≡ true
+  pub first : c .lent .first < places
   pub few : length (c .waiting) < places + 1
   pub in-map : every inMap (c .waiting) ≡ true
   pub size : length (c .map) ≡ 3 * entries

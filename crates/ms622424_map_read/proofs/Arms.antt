@@ -21,7 +21,7 @@ module _ (s : State) (q m : List ℕ) (a : Answer) (h : InRange (view (handed s 
   Served = Does (handed s q m) (outcome a q m) (called (reads 2))
 
   many : length (colours (s .fifo) q) ≡ s .fifo .waiting
-  many = how-many (s .fifo) q (h .right) (h .places)
+  many = how-many (s .fifo) q
 
   pub outside-refused : s .control .readmode ≡ 0 → a ≡ refuse 5 s → Served
   outside-refused e f = refuses s q m a _ f (read-outside-mode 2 _ h refl e)

@@ -1,3 +1,4 @@
+pub mod Ring
 pub mod Places
 pub mod Does
 pub mod Determined

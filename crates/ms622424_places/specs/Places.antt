@@ -1,19 +1,17 @@
 -- HOW 64 PLACES KEEP THE WAITING COLOURS, which chip a state and its lent tables are, and what a call promises. No
 -- other file of definitions knows a place of the queue.
-use Prim.Native.Nat.{ℕ, _+_, _*_, _/_, _%_}
+use Prim.Native.Nat.{ℕ, zero, suc, _+_, _*_, _/_, _%_}
 use mathlib.Core.Path.{_≡_}
-use mathlib.Core.Bool.{Bool, _&&_}
-use mathlib.Core.List.{List, map}
-use lib.Dec.{ltb, eqb}
-use lib.ListN.{length, take, drop}
+use mathlib.Core.List.{List, [], _∷_, map}
+use lib.ListN.{length, getD}
 use Rattle.vocabulary.specs.Outcome.{Outcome}
-use Rattle.vocabulary.specs.Every.{every}
 use Rattle.ms622424.specs.Ms622424.{Chip, Entry}
 use Rattle.ms622424_places.specs.declared.Fifo.{Fifo}
 use Rattle.ms622424_places.specs.declared.State.{State}
 use Rattle.ms622424_places.specs.declared.Answer.{Answer}
 
--- ---- The queue's places: the oldest entry in the first one, unused ones zero
+-- ---- The queue's places, a ring (request P7): the oldest entry at the first position, each younger one a place
+-- further, place 0 behind place 63; the places that no entry waits in are not read
 
 -- a place holds an entry as one number: red in the low byte, then green, blue and the address
 abbrev pub packed : Entry → ℕ
@@ -26,15 +24,13 @@ unpacked n = record { address = n / 16777216; red = n % 256; green = n / 256 % 2
 abbrev pub entriesIn : List ℕ → List Entry
 entriesIn places = map unpacked places
 
+-- n places from a position on
+unfoldable pub ringed : ℕ → ℕ → List ℕ → List ℕ
+ringed first zero places = []
+ringed first (suc n) places = getD places (first % 64) 0 ∷ ringed (first + 1) n places
+
 unfoldable pub colours : Fifo → List ℕ → List Entry
-colours f places = entriesIn (take (f .waiting) places)
-
-abbrev pub isZero : ℕ → Bool
-isZero n = eqb n 0
-
--- what refusal 9 asks of them, beside the entries' own range
-unfoldable pub right : Fifo → List ℕ → Bool
-right f places = ltb (f .waiting) 65 && every isZero (drop (f .waiting) places)
+colours f places = entriesIn (ringed (f .first) (f .waiting) places)
 
 -- ---- All that a call is handed, and the chip that it is
 
@@ -56,7 +52,7 @@ view h = record {
   ident = h .state .ident;
   waiting = colours (h .state .fifo) (h .queue);
   map = h .map;
-  lent = record { places = length (h .queue); right = right (h .state .fifo) (h .queue) };
+  lent = record { places = length (h .queue); first = h .state .fifo .first };
 }
 
 -- ---- What a call promises
@@ -86,6 +82,11 @@ pub record Does (given : Handed) (o : Outcome Handed) (call : Chip → Outcome C
   pub chip : seen o ≡ call (view given)
   pub keeps : ¬ (o .refusal ≡ 0) → o .left ≡ given
 
--- a chip that is left as it was is handed back in the same bytes
-pub record Same (given left : Handed) : Type 0 where
-  pub bytes : view left ≡ view given → left ≡ given
+-- ---- How far it fixes the bytes: all but what the places hold that no entry waits in
+
+pub record SameInUse (h g : Handed) : Type 0 where
+  pub state : h .state ≡ g .state
+  pub map : h .map ≡ g .map
+  pub places : length (h .queue) ≡ length (g .queue)
+  pub waiting : ringed (h .state .fifo .first) (h .state .fifo .waiting) (h .queue)
+      ≡ ringed (h .state .fifo .first) (h .state .fifo .waiting) (g .queue)

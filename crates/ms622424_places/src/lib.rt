@@ -1,15 +1,16 @@
 // How a caller keeps an MS622424: a state by value, 64 lent places for the queue and the lent colour map.
 //
 // specs/Places.antt is the one file that says which chip they are, and what a call promises of them; document 01,
-// "Chip B", decides. The oldest entry is in the first place, one number an entry, and unused
-// places are zero. Not modelled: as in ms622424.
+// "Chip B", and document 02, P7, decide. The places are a ring, one number an entry: the oldest is at the first
+// position, and what unused places hold is nobody's concern. Not modelled: as in ms622424.
 use ms622424::Control;
 use ms622424::Ident;
 use ms622424::Port;
 
-// How many entries of the lent queue wait.
+// Which place of the lent queue is first, and how many entries wait from there on.
 #[repr(C)]
 pub struct Fifo {
+    pub first: u8,
     pub waiting: u8,
 }
 

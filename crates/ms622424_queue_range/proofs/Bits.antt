@@ -2,107 +2,65 @@
 use Prim.Native.Nat.{ℕ, _+_, _-_, _^_, _≤_, _<_}
 use mathlib.Core.Path.{_≡_, refl, sym, ap, _∙_}
 use mathlib.Core.Bool.{Bool, true, false, _&&_}
-use mathlib.Core.List.{List, [], _∷_}
+use mathlib.Core.List.{List, _++_}
 use native.Mathlib.Omega.{arith}
-use borrow.Author.Tests.{ltb-true, lt-ltb, le-ltb, eqb-true, eq-eqb, ne-eqb}
 use lib.Bits.{bitOr}
-use lib.Dec.{ltb, eqb}
+use lib.Dec.{ltb}
 use lib.ListN.{length, take, drop, take-append-drop, length-drop}
-use lib.Seq.{take-all, drop-drop}
+use lib.Seq.{take-all}
 use Rattle.vocabulary.specs.Every.{every}
-use Rattle.vocabulary.proofs.Every.{and-true, every-append, every-same}
-use Rattle.vocabulary.proofs.Range.{agree, both, pair}
+use Rattle.vocabulary.proofs.Every.{every-append}
 use Rattle.ms622424_gather.proofs.Below.{all-below, or-below}
 use Rattle.ms622424.specs.Ms622424.{inMap}
-use Rattle.ms622424_places.specs.Places.{entriesIn, isZero}
-use Rattle.ms622424_places.proofs.Places.{below-in-map, inOrder}
+use Rattle.ms622424_places.specs.Places.{entriesIn, ringed}
+use Rattle.ms622424_places.proofs.Ring.{ringed-straight, ringed-round}
+use Rattle.ms622424_places.proofs.Places.{below-in-map}
 
--- a place is zero when it is below 2 ^ 0
-zero-below : (n : ℕ) → isZero n ≡ ltb n (2 ^ 0)
-zero-below n =
-    agree _ _
-    (λ h. let g = eqb-true n 0 h in lt-ltb n 1 (omega arith))
-    (λ h. let g = ltb-true n 1 h in eq-eqb n 0 (omega arith))
+and-turned : (a b : Bool) → (a && b) ≡ (b && a)
+and-turned true true = refl
+and-turned true false = refl
+and-turned false true = refl
+and-turned false false = refl
 
-zeros-below : (l : List ℕ) → every isZero l ≡ all-below 0 l
-zeros-below l = every-same isZero _ zero-below l
+-- two parts in a row are low where the bits gathered from both are
+parts-low : (l m : List ℕ) (a b : ℕ) → ltb a (2 ^ 37) ≡ all-below 37 l → ltb b (2 ^ 37) ≡ all-below 37 m
+    → ltb (bitOr a b) (2 ^ 37) ≡ all-below 37 (l ++ m)
+parts-low l m a b e f = or-below 37 a b ∙ (rw (e, f) refl ∙ sym (every-append _ l m))
 
-and-false : (b : Bool) → (b && false) ≡ false
-and-false true = refl
-and-false false = refl
+module _ (q : List ℕ) (first : ℕ) (size : length q ≡ 64) where
+  -- the bits of the places from one to another
+  abbrev Gathered : ℕ → ℕ → ℕ → Type 0
+  Gathered bits from to = (k : ℕ) → ltb bits (2 ^ k) ≡ all-below k (take (to - from) (drop from q))
 
-zeros-low : (l : List ℕ) → every isZero l ≡ true → all-below 37 l ≡ true
-unfolding every
-zeros-low [] e = refl
-zeros-low (x ∷ l) e =
-    let t = both (eqb x 0) (every isZero l) e in
-    let z = eqb-true x 0 (t .0) in
-    pair (lt-ltb x (2 ^ 37) (omega arith)) (zeros-low l (t .1))
+  -- the waiting entries in one part
+  pub straight-decides : (n bits to : ℕ) → first + n ≤ 64 → Gathered bits first to → to ≡ first + n
+      → ltb bits (2 ^ 37) ≡ every inMap (entriesIn (ringed first n q))
+  straight-decides n bits to h e t =
+      let same : to - first ≡ n = omega arith in
+      rw same at (e 37) ∙ rw (ringed-straight first n q size h) (sym (below-in-map _))
 
-every-parts : (p : ℕ → Bool) (n : ℕ) (l : List ℕ) → every p l ≡ (every p (take n l) && every p (drop n l))
-every-parts p n l = ap (every p) (sym (take-append-drop n l)) ∙ every-append p (take n l) (drop n l)
+  -- round the end: the part up to the end, and the part from place 0
+  pub round-decides : (n older younger : ℕ) → first < 64 → 64 ≤ first + n → n ≤ 64 → Gathered older first 64
+      → Gathered younger 0 (first + n - 64)
+      → ltb (bitOr older younger) (2 ^ 37) ≡ every inMap (entriesIn (ringed first n q))
+  round-decides n older younger h g m e f =
+      let t = take-all (64 - first) (drop first q) (simp length-drop (omega arith)) in
+      let z : first + n - 64 - 0 ≡ first + n - 64 = omega arith in
+      rw (ringed-round first n q size (omega arith) g m)
+      (parts-low (drop first q) (take (first + n - 64) q) older younger (rw t at (e 37)) (rw z at (f 37))
+      ∙ sym (below-in-map _))
 
--- unused places that are zero are low too: all are low, and the unused ones zero
-all-low : (n : ℕ) (l : List ℕ) → (all-below 37 l && every isZero (drop n l)) ≡ inOrder n l
-all-low n l =
-    agree _ _
-    (λ e.
-    let t = both (all-below 37 l) _ e in
-    pair (below-in-map (take n l) ∙ both (all-below 37 (take n l)) _ (sym (every-parts _ n l) ∙ t .0) .0) (t .1))
-    (λ e.
-    let t = both (every inMap (entriesIn (take n l))) _ e in
-    pair (every-parts _ n l ∙ pair (sym (below-in-map (take n l)) ∙ t .0) (zeros-low (drop n l) (t .1))) (t .1))
-
--- what the bits gathered from a whole queue decide, 32 places and 32
-module _ (q : List ℕ) (n front back : ℕ) (size : length q ≡ 64)
-    (first : (k : ℕ) → ltb front (2 ^ k) ≡ all-below k (take (32 - 0) (drop 0 q)))
-    (second : (k : ℕ) → ltb back (2 ^ k) ≡ all-below k (take (64 - 32) (drop 32 q))) where
-  -- those behind the first w
-  unused-bits : (w bits : ℕ) → ltb bits (2 ^ 0) ≡ all-below 0 (take (64 - w) (drop w q))
-      → eqb bits 0 ≡ every isZero (drop w q)
-  unused-bits w bits e =
-      let t = take-all (64 - w) (drop w q) (simp length-drop (omega arith)) in
-      zero-below bits ∙ (rw t at e ∙ sym (zeros-below (drop w q)))
-
-  all-bits : (k : ℕ) → ltb (bitOr front back) (2 ^ k) ≡ all-below k q
-  all-bits k =
+  -- all 64, two halves: the ring turned
+  pub full-decides : (n front back : ℕ) → n ≡ 64 → first < 64 → Gathered front 0 32 → Gathered back 32 64
+      → ltb (bitOr front back) (2 ^ 37) ≡ every inMap (entriesIn (ringed first n q))
+  full-decides n front back all h e f =
       let t = take-all 32 (drop 32 q) (simp length-drop (omega arith)) in
-      let f = first k in
-      let s = second k ∙ ap (all-below k) t in
-      or-below k front back ∙ rw (f, s) (sym (every-parts (λ (x : ℕ). ltb x (2 ^ k)) 32 q))
-
-  pub no-bits : bitOr front back ≡ 0 → true ≡ inOrder n q
-  no-bits e =
-      let z : every isZero q ≡ true = zeros-below q ∙ sym (all-bits 0) ∙ lt-ltb (bitOr front back) 1 (omega arith) in
-      let t = both (every isZero (take n q)) _ (sym (every-parts isZero n q) ∙ z) in
-      sym (sym (all-low n q) ∙ pair (zeros-low q z) (t .1))
-
-  pub high-bits : 2 ^ 37 ≤ bitOr front back → false ≡ inOrder n q
-  high-bits e = let no : all-below 37 q ≡ false = sym (all-bits 37) ∙ le-ltb _ (2 ^ 37) e in rw no at (all-low n q)
-
-  -- all are low: the unused ones decide
-  module _ (e : bitOr front back < 2 ^ 37) where
-    unused : every isZero (drop n q) ≡ inOrder n q
-    unused = let yes : all-below 37 q ≡ true = sym (all-bits 37) ∙ lt-ltb _ (2 ^ 37) e in rw yes at (all-low n q)
-
-    pub back-decides : (rest : ℕ) → ((k : ℕ) → ltb rest (2 ^ k) ≡ all-below k (take (64 - n) (drop n q)))
-        → eqb rest 0 ≡ inOrder n q
-    back-decides rest r = unused-bits n rest (r 0) ∙ unused
-
-    -- and where at most 32 wait, those of the front and the whole back
-    module _ (h : n ≤ 32) where
-      parts : every isZero (drop n q) ≡ (every isZero (take (32 - n) (drop n q)) && eqb back 0)
-      parts =
-          let sum : n + (32 - n) ≡ 32 = omega arith in
-          let d = drop-drop (32 - n) n q ∙ ap (λ (i : ℕ). drop i q) sum in
-          let b = unused-bits 32 back (second 0) in
-          every-parts isZero (32 - n) (drop n q) ∙ rw (d, b) refl
-
-      pub back-used : (back ≡ 0 → ⊥) → false ≡ inOrder n q
-      back-used g = sym (rw (ne-eqb back 0 g, and-false) at parts) ∙ unused
-
-      pub front-decides : back ≡ 0 → (rest : ℕ) → ((k : ℕ) → ltb rest (2 ^ k) ≡ all-below k (take (32 - n) (drop n q)))
-          → eqb rest 0 ≡ inOrder n q
-      front-decides g rest r =
-          zero-below rest ∙ (r 0 ∙ sym (zeros-below (take (32 - n) (drop n q))))
-          ∙ sym (rw (eq-eqb back 0 g, and-true) at parts) ∙ unused
+      let same : first + 64 - 64 ≡ first = omega arith in
+      let low : ℕ → Bool = λ n. ltb n (2 ^ 37) in
+      let turned = ringed-round first 64 q size (omega arith) (omega arith) (omega arith) in
+      rw all
+      (parts-low (take 32 q) (drop 32 q) front back (e 37) (rw t at (f 37))
+      ∙ (ap (all-below 37) (take-append-drop 32 q ∙ sym (take-append-drop first q))
+      ∙ (every-append low (take first q) (drop first q)
+      ∙ (and-turned (every low (take first q)) (every low (drop first q))
+      ∙ (sym (every-append low (drop first q) (take first q)) ∙ rw (turned, same) (sym (below-in-map _)))))))

@@ -19,4 +19,4 @@ status-served s q m select a h e g f =
     accepts s q m a _ q m f
     (read-does select _ h 4 e refl refl refl
     (ap (λ (v : ℕ). accepting v 0 (view (handed s q m)))
-    (g ∙ rw (how-many (s .fifo) q (h .right) (h .places)) refl)))
+    (g ∙ rw (how-many (s .fifo) q) refl)))

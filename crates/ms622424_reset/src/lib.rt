@@ -5,6 +5,7 @@
 use ms622424::Control;
 use ms622424::Port;
 use ms622424_places::Answer;
+use ms622424_places::Fifo;
 use ms622424_places::State;
 use ms622424_port::accepted;
 use ms622424_port::refused;
@@ -13,11 +14,11 @@ ghost use Prim.Native.Nat.{ℕ};
 ghost use Rattle.ms622424.specs.Ms622424.{resets, called};
 ghost use Rattle.ms622424_places.specs.Places.{handed, outcome, Does};
 
-// A reset. It is lent no map, and so keeps it.
+// A reset. It is lent no map, and so keeps it; the queue is empty, whatever its places hold.
 #[no_mangle]
-pub extern "C" fn zk_b_reset(s: State, queue: &mut [u64]) -> Answer
+pub extern "C" fn zk_b_reset(s: State, queue: &[u64]) -> Answer
     ensures { λ r. ⌜ ((m : List ℕ)
-        → Does (handed s (now (queue .entry)) m) (outcome r (now (queue .exit)) m) (called resets)) ⌝ }
+        → Does (handed s (now (queue .entry)) m) (outcome r (now (queue .entry)) m) (called resets)) ⌝ }
 {
     if queue.len() != 64 {
         return refused(1, s);
@@ -28,7 +29,10 @@ pub extern "C" fn zk_b_reset(s: State, queue: &mut [u64]) -> Answer
     if 16 <= s.ident.board {
         return refused(9, s);
     }
-    let f = ms622424_clear::empty(queue);
+    let f = Fifo {
+        first: 0,
+        waiting: 0,
+    };
     let p = Port {
         address: 0,
         counter: 0,

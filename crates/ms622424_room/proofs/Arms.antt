@@ -3,15 +3,15 @@ use Prim.Native.Nat.{ℕ}
 use mathlib.Core.Path.{_≡_, sym, _∙_}
 use mathlib.Core.List.{List}
 use lib.ListN.{length}
-use Rattle.ms622424.specs.Ms622424.{InRange, Moves, made, moves, roomMade}
+use Rattle.ms622424.specs.Ms622424.{Moves, made, moves, roomMade}
 use Rattle.ms622424.proofs.Moves.{room-forced, room-left}
 use Rattle.ms622424_places.specs.declared.State.{State}
 use Rattle.ms622424_places.specs.Places.{colours, handed, view}
 use Rattle.ms622424_places.proofs.Places.{how-many}
 
-module _ (s : State) (q m : List ℕ) (h : InRange (view (handed s q m))) where
+module _ (s : State) (q m : List ℕ) where
   many : length (colours (s .fifo) q) ≡ s .fifo .waiting
-  many = how-many (s .fifo) q (h .right) (h .places)
+  many = how-many (s .fifo) q
 
   pub forced : {x : Moves} → s .fifo .waiting ≡ 64 → x ≡ moves 4 (view (handed s q m))
       → x ≡ roomMade (view (handed s q m))

@@ -9,9 +9,9 @@ ghost use Rattle.ms622424.specs.Ms622424.{InRange, made, roomMade};
 ghost use Rattle.ms622424_places.specs.Places.{handed, view};
 
 // A full queue makes room for four entries.
-pub fn make_room(s: State, queue: &mut [u64], map: &mut [u8]) -> Moved
+pub fn make_room(s: State, queue: &[u64], map: &mut [u8]) -> Moved
     requires { ⌜ InRange (view (handed s (now queue) (now map))) ⌝ }
-    ensures { λ r. ⌜ made (r .count) (view (handed (r .state) (now (queue .exit)) (now (map .exit))))
+    ensures { λ r. ⌜ made (r .count) (view (handed (r .state) (now (queue .entry)) (now (map .exit))))
         ≡ roomMade (view (handed s (now (queue .entry)) (now (map .entry)))) ⌝ }
 {
     if s.fifo.waiting == 64 {

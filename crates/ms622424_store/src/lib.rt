@@ -3,10 +3,10 @@
 // Source document 004, "Write FIFO", and document 01, "Chip B", decide; ms622424's specs/Ms622424.antt says it
 // (`stored`, `allStored`), and ms622424_places how a place holds an entry. Not modelled: what the output shows then.
 ghost use mathlib.Core.Path.{_≡_};
-ghost use Prim.Native.Nat.{ℕ, _^_, _≤_, _<_, min};
-ghost use lib.ListN.{length, getD, take};
+ghost use Prim.Native.Nat.{ℕ, _+_, _%_, _^_, _≤_, _<_, min};
+ghost use lib.ListN.{length, getD};
 ghost use Rattle.ms622424.specs.Ms622424.{stored, allStored};
-ghost use Rattle.ms622424_places.specs.Places.{unpacked, entriesIn};
+ghost use Rattle.ms622424_places.specs.Places.{unpacked, entriesIn, ringed};
 
 // An entry's three bytes go into the map.
 fn store(map: &mut [u8], place: u64)
@@ -20,18 +20,25 @@ fn store(map: &mut [u8], place: u64)
 }
 
 // Each slot moves the oldest entry that is left, if one is, into the map: how many they moved.
-pub fn store_oldest(waiting: usize, slots: usize, queue: &[u64], map: &mut [u8]) -> usize
-    requires { ⌜ (length (now map) ≡ 24576) × (length (now queue) ≡ 64) × (waiting ≤ 64) ⌝ }
-    requires { ⌜ ((i : ℕ) → i < waiting → getD (now queue) i 0 < 2 ^ 37) ⌝ }
+pub fn store_oldest(
+    first: usize,
+    waiting: usize,
+    slots: usize,
+    queue: &[u64],
+    map: &mut [u8],
+) -> usize
+    requires { ⌜ (length (now map) ≡ 24576) × (length (now queue) ≡ 64) × (first < 64) × (waiting ≤ 64) ⌝ }
+    requires { ⌜ ((i : ℕ) → i < waiting → getD (now queue) ((first + i) % 64) 0 < 2 ^ 37) ⌝ }
     ensures { λ r. ⌜ r ≡ min slots waiting ⌝ }
-    ensures { λ r. ⌜ now (map .exit) ≡ allStored (entriesIn (take r (now (queue .entry)))) (now (map .entry)) ⌝ }
+    ensures { λ r. ⌜ now (map .exit)
+        ≡ allStored (entriesIn (ringed first r (now (queue .entry)))) (now (map .entry)) ⌝ }
 {
     let mut moved: usize = 0;
     while moved < slots {
         if waiting <= moved {
             break;
         }
-        store(map, queue[moved]);
+        store(map, queue[(first + moved) % 64]);
         moved += 1;
     }
     moved

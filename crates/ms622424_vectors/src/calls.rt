@@ -11,7 +11,7 @@ use script::byte;
 
 // The state of a chip of revision 5 on board 9 after a reset.
 pub fn fresh() -> State {
-    given(b"s 0000 00 00 00 03 00 05 09 00")
+    given(b"s 0000 00 00 00 03 00 05 09 00 00")
 }
 
 fn given(line: &[u8]) -> State {
@@ -34,7 +34,8 @@ fn given(line: &[u8]) -> State {
         control: d,
         ident: i,
         fifo: Fifo {
-            waiting: byte(line, 28),
+            first: byte(line, 28),
+            waiting: byte(line, 31),
         },
     }
 }

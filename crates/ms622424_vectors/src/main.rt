@@ -1,13 +1,14 @@
 // The MS622424's vectors of document 01 and the smallest examples of the rulings, printed one a line; then looks.
 //
-// stdin is the list of calls, and stdout was worked out by hand from document 01, source document 004 and request P5:
-// what each call answers, and after it the address, the counter and how many entries wait. A line of stdin is a
-// letter, numbers of two, four (*) or eight (**) hex digits, each behind a space, and the label that is printed:
+// stdin is the list of calls, and stdout was worked out by hand from document 01, source document 004 and requests P5
+// and P7: what each call answers, and after it the address, the counter, the queue's first position and how many
+// entries wait. A line of stdin is a letter, numbers of two, four (*) or eight (**) hex digits, each behind a space,
+// and the label that is printed:
 //   # a title
 //   i a chip of revision 5 on board 9 after a reset, with no label and no line
-//   s the state: address*, counter, red, green, command, read mode, revision, board, waiting; no label
+//   s the state: address*, counter, red, green, command, read mode, revision, board, first, waiting; no label
 //   n what is lent from here on: places of the queue, bytes of the map*; no label
-//   q places of the queue from the first on: how many, their number's high half**, low half**; no label
+//   q places of the queue from place 0 on: how many, their number's high half**, low half**; no label
 //   w write: select, byte                        v the same, with no label and no line
 //   c a colour written: red, green, blue; g grey colours from one number to before another; no label and no line
 //   r read: select                               b blanking: slots**
@@ -36,7 +37,7 @@ fn lent(s: State, line: &[u8]) -> Bench {
     }
 }
 
-// The first places of the queue.
+// The queue's places from place 0 on.
 fn fill(queue: &mut [u64; 64], count: usize, number: u64) {
     for i in 0..64 {
         if i < count {
@@ -98,7 +99,7 @@ fn run(text: &[u8], mut b: Bench, queue: &mut [u64; 64], map: &mut [u8; 24577]) 
 }
 
 fn main() {
-    let mut text = [0u8; 4096];
+    let mut text = [0u8; 8192];
     let n = io::read_full(STDIN_FILENO, &mut text);
     let mut queue = [0u64; 64];
     let mut map = [0u8; 24577];

@@ -21,10 +21,10 @@ fn values(refusal: u8, value: u8, count: u16) {
     script::number(b" count ", count as u64);
 }
 
-fn places(address: u16, counter: u8, waiting: u8) {
+fn places(address: u16, counter: u8, first: u8, waiting: u8) {
     script::number(b", address ", address as u64);
-    let numbers = [counter, waiting];
-    script::fields(b" counter # waiting #\n", &numbers);
+    let numbers = [counter, first, waiting];
+    script::fields(b" counter # first # waiting #\n", &numbers);
 }
 
 // An answer, and the state that it left.
@@ -36,6 +36,7 @@ pub fn answer(line: &[u8], a: Answer) -> State {
         places(
             a.state.port.address,
             a.state.port.counter,
+            a.state.fifo.first,
             a.state.fifo.waiting,
         );
     }

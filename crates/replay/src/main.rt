@@ -121,7 +121,7 @@ fn main() {
     let mut table = [0u16; 3072];
     let mut page = [0u8; 2134];
     let mut out = [0u8; 65536];
-    let board = board_start::start(&mut queue);
+    let board = board_start::start(&queue);
     replay(
         begun(board),
         &mut chunk,

@@ -2,7 +2,6 @@
 -- promises; a status is what a read of select 4 answers, on every chip in range with so many waiting.
 use Prim.Native.Nat.{ℕ, _*_}
 use mathlib.Core.Path.{_≡_}
-use mathlib.Core.Bool.{true}
 use lib.ListN.{length, replicate}
 use Rattle.vocabulary.specs.Line.{line}
 use Rattle.vocabulary.specs.Outcome.{accepting}
@@ -55,5 +54,5 @@ waitingChip command waiting = record {
   ident = record { revision = 0; board = 0 };
   waiting = replicate waiting black;
   map = replicate 24576 0;
-  lent = record { places = 64; right = true };
+  lent = record { places = 64; first = 0 };
 }

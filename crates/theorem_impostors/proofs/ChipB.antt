@@ -2,7 +2,6 @@
 -- waiting colours. Assumes nothing.
 use Prim.Native.Nat.{ℕ, zero, suc, _≤_, _<_}
 use mathlib.Core.Path.{_≡_, refl}
-use mathlib.Core.Bool.{true}
 use mathlib.Core.List.{[]}
 use native.Mathlib.Omega.{arith}
 use lib.ListN.{length, getD, replicate, length-replicate, getD-replicate}
@@ -24,7 +23,7 @@ chip command waiting byte = record {
   ident = record { revision = 0; board = 0 };
   waiting = replicate waiting black;
   map = replicate 24576 byte;
-  lent = record { places = 64; right = true };
+  lent = record { places = 64; first = 0 };
 }
 
 waiting-in-map : (n : ℕ) → InMap (replicate n black)
@@ -73,7 +72,7 @@ strange = record {
   ident = record { revision = 0; board = 16 };
   waiting = [];
   map = [];
-  lent = record { places = 64; right = true };
+  lent = record { places = 64; first = 0 };
 }
 
 -- what entry 0 shows
@@ -117,6 +116,7 @@ impostors-b =
           (changed (λ c. c .control .command) (λ e. omega arith)) once _
           (scope .nine resets strange refl (λ h. omega (arith, h .board)));
       looks =
-          tells-or-refuses called _ 9 _ (zeros .look-nowhere 9 (omega arith) (λ h. omega arith)) 4 4 _ _
+          tells-or-refuses called _ 9 _
+          (zeros .look-nowhere 9 (omega arith) (λ h. omega arith) (λ h. omega arith)) 4 4 _ _
           (zeros .look-state 4 (omega arith)) (commanded .look-state 4 (omega arith)) (λ v n. omega arith);
     }

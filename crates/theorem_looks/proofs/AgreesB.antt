@@ -59,7 +59,7 @@ module _ (c : Chip) (g : InRange c) where
   pub agrees-b : AgreesB c
   unfolding registerAt readable answers
   agrees-b =
-      let (address, counter, r, n, command, _, revision, board, _) = look-state c g in
+      let (address, counter, r, n, command, _, revision, board, _, _) = look-state c g in
       let low = read-value 0 refl refl in
       let high = read-value 1 refl refl in
       let ident = read-value 6 refl refl in

@@ -1,6 +1,6 @@
 -- A LOOK AGREES WITH THE READS of a chip in range: it is accepted, answers what the read of the same register or table
 -- would answer now, and leaves its chip. What no read tells alone (pointer, latches, the place in the order, how many
--- wait, read mode) is in the table of places, and nowhere else.
+-- wait, the queue's first position, read mode) is in the table of places, and nowhere else.
 use Prim.Native.Nat.{ℕ, _+_, _*_, _/_, _%_, _≤_, _<_}
 use mathlib.Core.Path.{_≡_}
 use Rattle.vocabulary.specs.Outcome.{accepting}

@@ -7,11 +7,11 @@ use mathlib.Core.Path.{_≡_}
 use mathlib.Core.Bool.{true}
 use mathlib.Core.List.{List, [], _∷_, _++_, map}
 use Rattle.vocabulary.specs.Outcome.{Outcome, accepting}
-use Rattle.vocabulary.specs.Run.{besides, after, Unnoticed}
+use Rattle.vocabulary.specs.Run.{besides, after, repliesBesides, Unnoticed}
 use Rattle.hd153108.specs.Hd153108 as A
 use Rattle.hd153108.specs.Hd153108.{Chip, nibble, colourAt, InRange, writes, reads, looks, isLook, called}
 use Rattle.ms622424.specs.Ms622424 as B
-use Rattle.ms622424_places.specs.Places.{Handed, Does}
+use Rattle.ms622424_places.specs.Places.{Handed, Does, SameInUse}
 use Rattle.rgb640.specs.Rgb640 as C
 use Rattle.sheet.specs.declared.Line.{Line}
 use Rattle.sheet.specs.Sheet.{sheetOf, good}
@@ -20,7 +20,15 @@ use Rattle.theorem_load.specs.Load.{Leaves}
 
 -- ---- The theorem
 
--- on any chip whatever; of chip B as a caller keeps it too, for any code that keeps its promise: the same bytes
+-- chip B as a caller keeps it: the state, the map and the waiting places. What the places hold that no entry waits in
+-- is promised of no accepted call (request P7)
+pub record KeptUnnoticed (step : B.Call → Handed → Outcome Handed) : Type 0 where
+  pub hears : (ks ls : List B.Call) (h : Handed) → besides B.isLook ks ≡ besides B.isLook ls
+      → repliesBesides step B.isLook ks h ≡ repliesBesides step B.isLook ls h
+  pub ends : (ks ls : List B.Call) (h : Handed) → besides B.isLook ks ≡ besides B.isLook ls
+      → SameInUse (after step ks h) (after step ls h)
+
+-- on any chip whatever; of chip B as a caller keeps it too, for any code that keeps its promise
 pub record LooksUnnoticed : Type 0 where
   -- a look is what each chip calls so
   pub named : (place : ℕ)
@@ -28,8 +36,8 @@ pub record LooksUnnoticed : Type 0 where
   pub a : Unnoticed A.called A.isLook
   pub b : Unnoticed B.called B.isLook
   pub c : Unnoticed C.called C.isLook
-  pub b-bytes : (step : B.Call → Handed → Outcome Handed)
-      → ((k : B.Call) (h : Handed) → Does h (step k h) (B.called k)) → Unnoticed step B.isLook
+  pub b-kept : (step : B.Call → Handed → Outcome Handed)
+      → ((k : B.Call) (h : Handed) → Does h (step k h) (B.called k)) → KeptUnnoticed step
 
 -- ---- The bench tool's story
 

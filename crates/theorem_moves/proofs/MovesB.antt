@@ -6,8 +6,8 @@ use Rattle.vocabulary.specs.Component.{Component, red, green, blue}
 use Rattle.vocabulary.proofs.Face.{called-holds}
 use Rattle.ms622424.specs.Ms622424.{Chip, Register, addressLow, addressHigh, palette, command, status, buffer}
 use Rattle.ms622424.specs.Ms622424.{revision, initialization, none, registerAt, selected, stepped, bufferStepped}
-use Rattle.ms622424.specs.Ms622424.{complete, Moves, moves, roomMade, taken, withPort, withQueue, written, answers}
-use Rattle.ms622424.specs.Ms622424.{writes, reads, blanks, pixels, signals, refusals, does, called}
+use Rattle.ms622424.specs.Ms622424.{complete, Moves, moves, roomMade, taken, withPort, withQueue, withFirst, written}
+use Rattle.ms622424.specs.Ms622424.{answers, writes, reads, blanks, pixels, signals, refusals, does, called}
 use Rattle.ms622424.proofs.Moves.{moves-are, room-cases}
 use Rattle.theorem_moves.specs.MovesB.{QueueAlone, PaletteAlone, PlaceAlone, CounterAlone, WriteLeaves}
 use Rattle.theorem_moves.specs.MovesB.{ReadLeaves}
@@ -35,7 +35,7 @@ kept-by-read revision c = refl
 kept-by-read initialization c = refl
 kept-by-read none c = refl
 
--- ---- the moves: waiting colours and map, and nothing else
+-- ---- the moves: waiting colours, their first place and map, and nothing else
 moves-leave : (slots : ℕ) (c : Chip) → QueueAlone c (moves slots c .after)
 moves-leave slots c = subst (λ (m : Moves). QueueAlone c (m .after)) (sym (moves-are slots c)) refl
 
@@ -48,7 +48,9 @@ taken-leaves blue byte c = refl
 
 -- what leaves the rest of a chip that has another queue leaves the rest of the chip
 palette-after : (c d n : Chip) → QueueAlone c d → PaletteAlone d n → PaletteAlone c n
-palette-after c d n e h = h ∙ ap (λ (x : Chip). withPort (n .port) (withQueue (n .waiting) (n .map) x)) e
+palette-after c d n e h =
+    h
+    ∙ ap (λ (x : Chip). withPort (n .port) (withQueue (n .waiting) (n .map) (withFirst (n .lent .first) x))) e
 
 written-leaves : (r : Register) (byte : ℕ) (c : Chip) → WriteLeaves r c (written r byte c .left)
 unfolding written
@@ -101,8 +103,8 @@ read-leaves select c =
     let r = registerAt select in
     called-holds refusals does (reads select) c (ReadLeaves r c) (kept-by-read r c) (λ none. answers-leave r c)
 
--- ---- the other calls: blanking changes waiting colours and map alone, pixel and timing signals nothing at all; a
--- reset keeps the map (`reset-keeps-map` of ms622424)
+-- ---- the other calls: blanking changes waiting colours, their first place and map alone, pixel and timing signals
+-- nothing at all; a reset keeps the map (`reset-keeps-map` of ms622424)
 pub blank-leaves : (slots : ℕ) (c : Chip) → QueueAlone c (called (blanks slots) c .left)
 blank-leaves slots c =
     called-holds refusals does (blanks slots) c (QueueAlone c) refl (λ none. moves-leave slots c)

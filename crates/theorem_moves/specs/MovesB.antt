@@ -1,15 +1,16 @@
 -- Chip B: what an access to a register may change of a chip c, which is d afterwards; all else is as it was.
 use mathlib.Core.Path.{_≡_}
-use Rattle.ms622424.specs.Ms622424.{Chip, port, control, withPort, withControl, withQueue, Register, addressLow}
-use Rattle.ms622424.specs.Ms622424.{addressHigh, palette, command, status, buffer, revision, initialization, none}
+use Rattle.ms622424.specs.Ms622424.{Chip, port, control, withPort, withControl, withQueue, withFirst, Register}
+use Rattle.ms622424.specs.Ms622424.{addressLow, addressHigh, palette, command, status, buffer, revision}
+use Rattle.ms622424.specs.Ms622424.{initialization, none}
 
--- the waiting colours and the map
+-- the waiting colours, where the first of them is, and the map
 abbrev pub QueueAlone : Chip → Chip → Type 0
-QueueAlone c d = d ≡ withQueue (d .waiting) (d .map) c
+QueueAlone c d = d ≡ withQueue (d .waiting) (d .map) (withFirst (d .lent .first) c)
 
 -- and address, counter and buffer too: command, read mode, revision and board number stay
 abbrev pub PaletteAlone : Chip → Chip → Type 0
-PaletteAlone c d = d ≡ withPort (d .port) (withQueue (d .waiting) (d .map) c)
+PaletteAlone c d = d ≡ withPort (d .port) (withQueue (d .waiting) (d .map) (withFirst (d .lent .first) c))
 
 -- address and counter
 abbrev pub PlaceAlone : Chip → Chip → Type 0

@@ -1,7 +1,6 @@
 -- THE PREMISES OF DEMAND 3 CAN BE MET: what a run has to show for that, and a chip to start from.
 use Prim.Native.Nat.{ℕ, suc, _^_, _<_}
 use mathlib.Core.Path.{_≡_}
-use mathlib.Core.Bool.{true}
 use mathlib.Core.List.{List, [], _∷_, _++_, map}
 use lib.ListN.{length, replicate}
 use Rattle.vocabulary.specs.Run.{after, Accepted}
@@ -38,5 +37,5 @@ zeros = record {
   ident = record { revision = 0; board = 0 };
   waiting = [];
   map = replicate 24576 0;
-  lent = record { places = 64; right = true };
+  lent = record { places = 64; first = 0 };
 }

@@ -9,10 +9,10 @@ use lib.ListN.{length, take, drop}
 use Rattle.vocabulary.specs.Outcome.{Outcome, accepting}
 use Rattle.vocabulary.specs.Run.{Accepted}
 use Rattle.vocabulary.proofs.Face.{called-does}
-use Rattle.ms622424.specs.Ms622424.{Chip, InRange, withQueue, allStored, Moves, palette, initialization}
+use Rattle.ms622424.specs.Ms622424.{Chip, InRange, allStored, Moves, palette, initialization}
 use Rattle.ms622424.specs.Ms622424.{registerAt, writable, readable, written, answers}
 use Rattle.ms622424.specs.Ms622424.{writes, reads, blanks, pixels, refusals, does, called}
-use Rattle.ms622424.proofs.Moves.{moves-least}
+use Rattle.ms622424.proofs.Moves.{movedOn, moves-least}
 use Rattle.ms622424.proofs.Pixel.{pixel-does}
 use Rattle.ms622424.proofs.Read.{read-does}
 use Rattle.ms622424.proofs.Write.{write-does}
@@ -21,7 +21,7 @@ use Rattle.ms622424.proofs.Write.{write-does}
 pub blank-moves : (slots : ℕ) (c : Chip) → Accepted called (blanks slots) c
     → let n = min slots (length (c .waiting)) in
     called (blanks slots) c
-    ≡ accepting 0 n (withQueue (drop n (c .waiting)) (allStored (take n (c .waiting)) (c .map)) c)
+    ≡ accepting 0 n (movedOn n (drop n (c .waiting)) (allStored (take n (c .waiting)) (c .map)) c)
 blank-moves slots c a =
     called-does refusals does (blanks slots) c a
     ∙ ap (λ (m : Moves). accepting 0 (m .count) (m .after)) (moves-least slots _ c refl)

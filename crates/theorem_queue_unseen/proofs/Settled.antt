@@ -54,7 +54,7 @@ palette-settled : (byte : ℕ) (c : Chip) → c .port .counter < 3
     ≡ allStored (pick (eqb (c .port .counter) 2) (completed (c .port) byte ∷ []) []) (settled c)
 palette-settled byte c h =
     let same = room-cases c (λ (m : Moves). settled (m .after) ≡ settled c) (moves-settled 4 c) refl in
-    let kept = room-keeps c Port (λ d. d .port) (λ es m. refl) in
+    let kept = room-keeps c Port (λ d. d .port) (λ es m n. refl) in
     taken-settled (c .port .counter) byte (roomMade c .after) h ∙ rw (same, kept) refl
 
 -- ---- what each call does where it is accepted, by select

@@ -16,12 +16,12 @@ use Rattle.vocabulary.specs.Run.{after, gathered, Along}
 use Rattle.vocabulary.proofs.Every.{every-append}
 use Rattle.vocabulary.proofs.Range.{pair}
 use Rattle.vocabulary.proofs.Run.{after-next, after-none, run-keeps}
-use Rattle.ms622424.specs.Ms622424.{Chip, Entry, InRange, port, control, withPort, withControl, withQueue}
+use Rattle.ms622424.specs.Ms622424.{Chip, Entry, InRange, port, control, withPort, withControl}
 use Rattle.ms622424.specs.Ms622424.{stepped}
 use Rattle.ms622424.specs.Ms622424.{written, answers, Call, reads, blanks, called}
 use Rattle.ms622424.proofs.Blank.{blank-does}
 use Rattle.ms622424.proofs.Kept.{called-keeps-range}
-use Rattle.ms622424.proofs.Moves.{moves-are}
+use Rattle.ms622424.proofs.Moves.{movedOn, moves-are}
 use Rattle.theorem_queue_unseen.specs.Unseen.{NoReset, completedBy, completedIn, settled, byteAt}
 use Rattle.theorem_queue_unseen.proofs.Accepting.{initialized, table-read}
 use Rattle.theorem_queue_unseen.proofs.Stored.{all-found, last-elsewhere}
@@ -36,7 +36,7 @@ use Rattle.theorem_read_back.proofs.StoreB.{waits-last, stored-last, be
 -- ---- Blanking and three reads
 module _ (c : Chip) (x : InRange c) (slots : ℕ) (enough : length (c .waiting) ≤ slots) (few : slots < 65536) where
   abbrev emptied : Chip
-  emptied = withQueue [] (settled c) c
+  emptied = movedOn (length (c .waiting)) [] (settled c) c
 
   pub blanks-all : called (blanks slots) c ≡ accepting 0 (length (c .waiting)) emptied
   unfolding settled
@@ -157,7 +157,7 @@ unfolding written
 reads-back c x a r g b ha hr hg hb between slots h enough few =
     let now = after called between (after called (storing a r g b) c) in
     let all = blanks-all now (now-range c x a r g b ha hr hg hb between) slots enough few in
-    let d = withQueue [] (settled now) now in
+    let d = movedOn (length (now .waiting)) [] (settled now) now in
     let y = kept _ (now-range c x a r g b ha hr hg hb between) all in
     let on = initialized d y in
     let z = kept _ y on in

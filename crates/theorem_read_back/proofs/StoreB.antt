@@ -102,7 +102,7 @@ module _ (c : Chip) (x : InRange c) (off : c .control .readmode ≡ 0) (at-red :
       ∙ ap (λ (n : ℕ). accepting 0 n one) (room-count c))
 
   room-off : room .control .readmode ≡ 0
-  room-off = room-keeps c ℕ (λ d. d .control .readmode) (λ es m. refl) ∙ off
+  room-off = room-keeps c ℕ (λ d. d .control .readmode) (λ es m n. refl) ∙ off
 
   pub green-written : called (writes 2 g) one ≡ accepting 0 0 two
   unfolding taken stepped
@@ -122,7 +122,7 @@ module _ (c : Chip) (x : InRange c) (off : c .control .readmode ≡ 0) (at-red :
   unfolding taken complete stepped
   waits-last =
       ap (λ (n : ℕ). room .waiting ++ (record { address = n; red = r; green = g; blue = b } ∷ []))
-      (room-keeps c ℕ (λ d. d .port .address) (λ es m. refl))
+      (room-keeps c ℕ (λ d. d .port .address) (λ es m n. refl))
 
   pub stored-last : (k : Component) (m : List ℕ) → byteAt (c .port .address) k (three .waiting) m ≡ oneOf k r g b
   unfolding lastFor

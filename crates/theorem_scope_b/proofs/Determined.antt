@@ -93,9 +93,10 @@ module _ (f : Called) (s : Scope f) where
     look : (place : ℕ) → Same (looks place) c
     look place =
         under place 9 (λ l. row (λ h a. a .look-state place l))
-        (λ l. within 0x10000 24576 place
+        (λ l. equals place 0xC (λ e. subst (λ (p : ℕ). Same (looks p) c) (sym e) (row (λ h a. a .look-first)))
+        (λ f. within 0x10000 24576 place
         (λ i u e. subst (λ (p : ℕ). Same (looks p) c) (sym e) (row (λ h a. a .look-map i u)))
-        (λ n. row (λ h a. a .look-nowhere place l n)))
+        (λ n. row (λ h a. a .look-nowhere place l f n))))
 
   -- ---- Every chip that a call asks nothing more of
   asked : (k : Call) (c : Chip) → Lends k c → Asks k c → Same k c

@@ -44,7 +44,7 @@ ranges-hold c h =
 
 pub hold-ranges : (c : Chip) → Holds (ranges c) → Ranges c
 hold-ranges c h =
-    let (_, (_, (_, (_, (_, (_, (revision, (board, (right, (few, (inside, _))))))))))) = h in
+    let (_, (_, (_, (_, (_, (_, (revision, (board, (first, (few, (inside, _))))))))))) = h in
     let m = test-in-map (c .waiting) inside in
     let i : IdentRanges (c .ident) = search in
     search arith

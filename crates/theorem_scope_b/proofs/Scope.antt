@@ -30,7 +30,7 @@ use Rattle.theorem_scope_b.proofs.Shown.{status-is, timing-is}
 
 state-places : (c : Chip) → InRange c → (i : ℕ) → i < 9 → called (looks i) c ≡ accepting (getD (places c) i 0) 0 c
 state-places c r =
-    let (t0, t1, t2, t3, t4, t5, t6, t7, t8) = L.look-state c r in
+    let (t0, t1, t2, t3, t4, t5, t6, t7, t8, _) = L.look-state c r in
     any (λ i n. called (looks i) c ≡ accepting n 0 c) (places c)
     (t0, (t1, (t2, (t3, (t4, (t5, (t6, (t7, (t8, tt)))))))))
 
@@ -39,7 +39,7 @@ blank : (c : Chip) → InRange c → (slots : ℕ) → slots < 65536
     called (blanks slots) c ≡ accepting 0 n (moved n c)
 blank c r slots h =
     let n = min slots (length (c .waiting)) in
-    sym (blank-does slots c r h (sym (moves-least slots n c refl ∙ ap (made n) (T.moved-is n c))))
+    sym (blank-does slots c r h (sym (moves-least slots n c refl ∙ ap (made n) (T.moved-is n c (r .first)))))
 
 -- ---- selects that are not served
 module _ (c : Chip) (r : InRange c) (select : ℕ) where
@@ -90,8 +90,9 @@ accesses c g =
       mode-3 = λ word h. sym (pixel-does 3 word c r (omega arith) h refl refl refl);
       no-pixel = λ mode word h. sym (pixel-outside mode word c r (λ m w. h (m, w)));
       look-state = state-places c r;
+      look-first = L.look-state c r .9;
       look-map = λ i h. L.look-map c r (0x10000 + i) i refl h;
-      look-nowhere = λ place h o. L.look-nowhere c r place h (λ l u. o (l, u));
+      look-nowhere = λ place h f o. L.look-nowhere c r place h f (λ l u. o (l, u));
     }
 
 signal : (s : ℕ) (c : Chip) → c .lent .places ≡ 64 → Ranges c → s < 16

@@ -1,5 +1,5 @@
 -- The rows of select 2: writes that move the oldest first, and reads of the map. Assumes nothing.
-use Prim.Native.Nat.{ℕ, _+_, _*_, _<_}
+use Prim.Native.Nat.{ℕ, _+_, _*_, _%_, _<_}
 use mathlib.Core.Path.{_≡_, refl, sym, ap, _∙_}
 use mathlib.Core.Bool.{not}
 use mathlib.Core.List.{List, [], _∷_}
@@ -12,7 +12,7 @@ use Rattle.vocabulary.specs.Outcome.{accepting}
 use Rattle.ms622424.specs.Ms622424.{Chip, Entry, InRange, withPort, allStored, stepped, complete, made, roomMade}
 use Rattle.ms622424.specs.Ms622424.{registerAt, writable, readable, taken, answers, writes, reads, called}
 use Rattle.ms622424.proofs.Access.{is-red, is-green, is-blue}
-use Rattle.ms622424.proofs.Moves.{moves-least, room-forced, room-left}
+use Rattle.ms622424.proofs.Moves.{first-after, movedOn, moves-least, room-forced, room-left}
 use Rattle.ms622424.proofs.Read.{read-does}
 use Rattle.ms622424.proofs.Write.{palette-written, write-does}
 use Rattle.theorem_scope_b.specs.Scope.{queued, transferring, moved, Stores, Fetches}
@@ -23,10 +23,12 @@ unfolding allStored transferring put
 transferring-stores [] m = refl
 transferring-stores (e ∷ es) m = transferring-stores es _
 
-pub moved-is : (n : ℕ) (c : Chip)
-    → queued (drop n (c .waiting)) (allStored (take n (c .waiting)) (c .map)) c ≡ moved n c
-moved-is n c =
-    ap (λ (m : List ℕ). queued (drop n (c .waiting)) m c) (transferring-stores (take n (c .waiting)) (c .map))
+pub moved-is : (n : ℕ) (c : Chip) → c .lent .first < 64
+    → movedOn n (drop n (c .waiting)) (allStored (take n (c .waiting)) (c .map)) c ≡ moved n c
+moved-is n c h =
+    rw (first-after n (c .lent .first) h)
+    (ap (λ (m : List ℕ). queued (drop n (c .waiting)) m ((c .lent .first + n) % 64) c)
+    (transferring-stores (take n (c .waiting)) (c .map)))
 
 module _ (c : Chip) (r : InRange c) where
   -- ---- writes
@@ -49,11 +51,13 @@ module _ (c : Chip) (r : InRange c) where
     pub full : length (c .waiting) ≡ 64 → Stores called 4 c
     full l =
         stores 4
-        (sym (room-forced c l ∙ (moves-least 4 4 c (omega (arith, l)) ∙ ap (made 4) (moved-is 4 c))))
+        (sym (room-forced c l ∙ (moves-least 4 4 c (omega (arith, l)) ∙ ap (made 4) (moved-is 4 c (r .first)))))
 
     pub roomy : ¬ (length (c .waiting) ≡ 64) → Stores called 0 c
     unfolding transferring
-    roomy l = stores 0 (sym (room-left c l))
+    roomy l =
+        let same : (c .lent .first + 0) % 64 ≡ c .lent .first = omega (arith, r .first) in
+        stores 0 (rw same (sym (room-left c l)))
 
   -- ---- reads
   module _ (mode : c .control .readmode ≡ 1) (none : length (c .waiting) ≡ 0) where

@@ -1,10 +1,11 @@
--- WHAT DOCUMENT 01 SAYS OF CHIP B, in its order, words and numbers, as rows: a call, and what it answers and leaves.
+-- WHAT DOCUMENT 01 SAYS OF CHIP B, in its order, words and numbers, as rows: a call, and what it answers and leaves;
+-- and of its queue what request P7 says in place of document 01, "with a first position, 0 at reset".
 -- It is said of any `called`. Of Ms622424.antt it takes the names of the chip's parts and of its calls, and nothing
 -- that they do: who ticks these rows against document 01 need not believe that file. The MS622424 meets them
 -- (`scope`), and a chip that meets them is the MS622424 (`scope-determines`), refusals included.
 use Prim.Native.Nat.{ℕ, _+_, _*_, _/_, _%_, _^_, _<_, _≤_, min}
 use mathlib.Core.Path.{_≡_}
-use mathlib.Core.Bool.{true, _&&_, _||_}
+use mathlib.Core.Bool.{_&&_, _||_}
 use mathlib.Core.List.{List, [], _∷_, _++_}
 use lib.Dec.{eqb, leb}
 use lib.ListN.{length, getD, set, take, drop}
@@ -34,7 +35,8 @@ InMap [] = Unit
 InMap (e ∷ es) = (e .address < 8192) × InMap es
 
 -- "an address below 8,192, counter 0..2, red and green buffer, command register, read mode, .. and a queue of up to 64
--- entries, .. unused places zero" (`right`); 9: "reserved bits or unused places not zero" (command bits 5..7)
+-- entries"; 9: "reserved bits .. not zero" (command bits 5..7); P7: "Unused places may now hold anything", and the
+-- first position is one of the 64
 pub record Ranges (c : Chip) : Type 0 where
   pub address : c .port .address < 8192
   pub counter : c .port .counter < 3
@@ -45,7 +47,7 @@ pub record Ranges (c : Chip) : Type 0 where
   pub ident : IdentRanges (c .ident)
   pub few : length (c .waiting) ≤ 64
   pub in-map : InMap (c .waiting)
-  pub right : c .lent .right ≡ true
+  pub first : c .lent .first < 64
 
 pub record Good (c : Chip) : Type 0 where
   pub sizes : Sizes c
@@ -72,8 +74,8 @@ Asks (signals s) c = Ranges c
 Asks resets c = IdentRanges (c .ident)
 Asks (looks place) c = Ranges c
 
--- ---- A chip with other numbers: address and counter; the buffer; command and read mode; the queue and the map; no
--- entry waiting, and every place zero
+-- ---- A chip with other numbers: address and counter; the buffer; command and read mode; the queue and the map, and
+-- the queue's first position
 
 abbrev pub parts : Port → Control → List Entry → List ℕ → Lent → Chip → Chip
 parts port control waiting map lent c = record {
@@ -98,18 +100,19 @@ abbrev pub having : ℕ → ℕ → Chip → Chip
 having command mode c =
     parts (c .port) (record { command = command; readmode = mode }) (c .waiting) (c .map) (c .lent) c
 
-abbrev pub queued : List Entry → List ℕ → Chip → Chip
-queued waiting map c = parts (c .port) (c .control) waiting map (c .lent) c
+abbrev pub queued : List Entry → List ℕ → ℕ → Chip → Chip
+queued waiting map first c =
+    parts (c .port) (c .control) waiting map (record { places = c .lent .places; first = first }) c
 
 abbrev pub emptied : Chip → Chip
-emptied c = parts (c .port) (c .control) [] (c .map) (record { places = c .lent .places; right = true }) c
+emptied c = queued [] (c .map) 0 c
 
 -- ---- The queue
 
 -- "Completing puts address and three bytes at the queue's end"
 abbrev pub completing : ℕ → ℕ → ℕ → ℕ → Chip → Chip
 completing a r g b c =
-    queued (c .waiting ++ (record { address = a; red = r; green = g; blue = b } ∷ [])) (c .map) c
+    queued (c .waiting ++ (record { address = a; red = r; green = g; blue = b } ∷ [])) (c .map) (c .lent .first) c
 
 -- an entry in the map, "red first"; entries one after another, the oldest first
 abbrev pub storing : Entry → List ℕ → List ℕ
@@ -120,9 +123,10 @@ unfoldable pub transferring : List Entry → List ℕ → List ℕ
 transferring [] m = m
 transferring (e ∷ es) m = transferring es (storing e m)
 
--- the n oldest moved into the map
+-- the n oldest moved into the map; the first position steps by one, modulo 64, for each
 abbrev pub moved : ℕ → Chip → Chip
-moved n c = queued (drop n (c .waiting)) (transferring (take n (c .waiting)) (c .map)) c
+moved n c =
+    queued (drop n (c .waiting)) (transferring (take n (c .waiting)) (c .map)) ((c .lent .first + n) % 64) c
 
 -- ---- Select 2
 
@@ -254,10 +258,12 @@ pub record Accesses (called : Call → Chip → Outcome Chip) (c : Chip) : Type 
   pub mode-2 : Guns called 2 7680 c
   pub mode-3 : Guns called 3 7936 c
   pub no-pixel : (mode word : ℕ) → ¬ ((mode < 4) × (word < 2 ^ 24)) → called (pixels mode word) c ≡ refusing 9 0 c
-  -- the places of a look: the state's, and each byte of the map as stored; 3 for a place that isn't there
+  -- the places of a look: the state's, the queue's first position, and each byte of the map as stored; 3 for a place
+  -- that isn't there
   pub look-state : (i : ℕ) → i < 9 → called (looks i) c ≡ accepting (getD (places c) i 0) 0 c
+  pub look-first : called (looks 0xC) c ≡ accepting (c .lent .first) 0 c
   pub look-map : (i : ℕ) → i < 24576 → called (looks (0x10000 + i)) c ≡ accepting (getD (c .map) i 0) 0 c
-  pub look-nowhere : (place : ℕ) → 9 ≤ place → ¬ ((0x10000 ≤ place) × (place < 0x16000))
+  pub look-nowhere : (place : ℕ) → 9 ≤ place → ¬ (place ≡ 0xC) → ¬ ((0x10000 ≤ place) × (place < 0x16000))
       → called (looks place) c ≡ refusing 3 0 c
 
 -- ---- Every call of every chip
@@ -272,6 +278,7 @@ pub record Scope (called : Call → Chip → Outcome Chip) : Type 0 where
       → called (signals s) c ≡ accepting (timing s (c .control .command)) 0 c
   pub no-signal : (s : ℕ) (c : Chip) → c .lent .places ≡ 64 → Ranges c → 16 ≤ s
       → called (signals s) c ≡ refusing 9 0 c
-  -- "queue empty, command 0x03, read mode off, address, counter and buffer 0; map, revision and board number kept"
+  -- "queue empty, command 0x03, read mode off, address, counter and buffer 0; map, revision and board number kept";
+  -- the first position is 0
   pub reset : (c : Chip) → c .lent .places ≡ 64 → IdentRanges (c .ident)
       → called resets c ≡ accepting 0 0 (at 0 0 (buffering 0 0 (having 0x03 0 (emptied c))))

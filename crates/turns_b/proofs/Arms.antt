@@ -2,10 +2,8 @@
 use Prim.Native.Nat.{ℕ}
 use mathlib.Core.Path.{_≡_}
 use mathlib.Core.List.{List}
-use Rattle.ms622424.specs.Ms622424 as B
 use Rattle.ms622424.specs.Ms622424.{Chip, called, resets, signals}
-use Rattle.ms622424_places.specs.Places.{handed, view, outcome, Does, Same}
-use Rattle.ms622424_places.proofs.Determined.{does-same}
+use Rattle.ms622424_places.specs.Places.{handed, view, outcome, Does}
 use Rattle.ms622424_places.specs.declared.State.{State}
 use Rattle.ms622424_places.specs.declared.Answer.{Answer}
 use Rattle.log.specs.declared.Call.{Call}
@@ -29,33 +27,19 @@ module _ (queue map : List ℕ) where
   pub same-chip : {s t : State} → s ≡ t → view (handed s queue map) ≡ view (handed t queue map)
   same-chip e = rw e
 
-  -- calls that are lent no map; `after` is the queue afterwards
-  module _ (after : List ℕ) (s : State) {t : BTurn} {r : Answer} where
-    pub reset-done : ((m : List ℕ) → Does (handed s queue m) (outcome r after m) (called resets))
+  -- calls that are lent no map
+  module _ (s : State) {t : BTurn} {r : Answer} where
+    pub reset-done : ((m : List ℕ) → Does (handed s queue m) (outcome r queue m) (called resets))
         → t .state ≡ r .state → Says (t .text) (told (r .refusal) okText)
-        → BTook t after map (done (called resets (view (handed s queue map))))
+        → BTook t queue map (done (called resets (view (handed s queue map))))
     reset-done e k h = took-done (e map .chip) (rw k) h
 
-    pub sync-done : (k : ℕ) → ((m : List ℕ) → Does (handed s queue m) (outcome r after m) (called (signals k)))
+    pub sync-done : (k : ℕ) → ((m : List ℕ) → Does (handed s queue m) (outcome r queue m) (called (signals k)))
         → t .state ≡ r .state → Says (t .text) (told (r .refusal) (syncText (r .value)))
-        → BTook t after map (signalled (called (signals k) (view (handed s queue map))))
+        → BTook t queue map (signalled (called (signals k) (view (handed s queue map))))
     sync-done k e l h = took-signalled (e map .chip) (rw l) h
 
   pub at-sync : (s : State) (t : BTurn) {call : CallB} (k : ℕ) → call ≡ Sync k
       → ((m : List ℕ) → BTook t queue m (signalled (called (signals k) (view (handed s queue m)))))
       → BTook t queue map (bOwn call (view (handed s queue map)))
   at-sync s t k m h = rw m (h map)
-
--- the same bytes, where the chip is the same: of a call with both tables, and of those that are lent no map
-module _ (s : State) (queue queue' : List ℕ) {t : State} {r : Answer} (e : t ≡ r .state) where
-  pub turn-same : (map map' : List ℕ) (k : B.Call) → Does (handed s queue map) (outcome r queue' map') (called k)
-      → Same (handed s queue map) (handed t queue' map')
-  turn-same map map' k d = rw e (does-same k _ _ d)
-
-  pub reset-same : (map : List ℕ) → ((m : List ℕ) → Does (handed s queue m) (outcome r queue' m) (called resets))
-      → Same (handed s queue map) (handed t queue' map)
-  reset-same map d = turn-same map map resets (d map)
-
-pub same-at : {s t : State} (queue queue' map : List ℕ)
-    → ((m : List ℕ) → Same (handed s queue m) (handed t queue' m)) → Same (handed s queue map) (handed t queue' map)
-same-at queue queue' map h = h map

@@ -12,7 +12,7 @@ use ms622424_places::State;
 ghost use Prim.Native.Nat.{ℕ};
 ghost use mathlib.Core.List.{List};
 ghost use Rattle.ms622424.specs.Ms622424.{signals as signalsCall, looks, called};
-ghost use Rattle.ms622424_places.specs.Places.{handed, view, Same};
+ghost use Rattle.ms622424_places.specs.Places.{handed, view};
 ghost use Rattle.answers.specs.Answers.{okText, newsText};
 ghost use Rattle.turns.specs.Turns.{signalled, sighted, Told};
 ghost use Rattle.turns_b.specs.Turns.{bTurn, bOwn, BTook};
@@ -49,8 +49,6 @@ fn done(r: Answer) -> BTurn
 fn sync(s: State, signals: u8, queue: &[u64]) -> BTurn
     ensures { λ t. ⌜ ((map : List ℕ) → BTook t (now (queue .entry)) map
         (signalled (called (signalsCall signals) (view (handed s (now (queue .entry)) map))))) ⌝ }
-    ensures { λ t. ⌜ ((map : List ℕ)
-        → Same (handed s (now (queue .entry)) map) (handed (t .state) (now (queue .entry)) map)) ⌝ }
 {
     let r = ms622424_signals::zk_b_sync(s, signals, queue);
     told(r, News::Sync(r.value))
@@ -60,8 +58,6 @@ fn sync(s: State, signals: u8, queue: &[u64]) -> BTurn
 fn look(s: State, place: u32, queue: &[u64], map: &[u8]) -> BTurn
     ensures { λ t. ⌜ BTook t (now (queue .entry)) (now (map .entry))
         (sighted (called (looks place) (view (handed s (now (queue .entry)) (now (map .entry)))))) ⌝ }
-    ensures { λ t. ⌜ Same (handed s (now (queue .entry)) (now (map .entry)))
-        (handed (t .state) (now (queue .entry)) (now (map .entry))) ⌝ }
 {
     let r = ms622424_look::zk_b_look(s, place, queue, map);
     BTurn {
@@ -71,11 +67,9 @@ fn look(s: State, place: u32, queue: &[u64], map: &[u8]) -> BTurn
 }
 
 // A call that chip B alone has.
-fn own(s: State, call: CallB, queue: &mut [u64], map: &mut [u8]) -> BTurn
-    ensures { λ t. ⌜ BTook t (now (queue .exit)) (now (map .exit))
+fn own(s: State, call: CallB, queue: &[u64], map: &mut [u8]) -> BTurn
+    ensures { λ t. ⌜ BTook t (now (queue .entry)) (now (map .exit))
         (bOwn call (view (handed s (now (queue .entry)) (now (map .entry))))) ⌝ }
-    ensures { λ t. ⌜ Same (handed s (now (queue .entry)) (now (map .entry)))
-        (handed (t .state) (now (queue .exit)) (now (map .exit))) ⌝ }
 {
     match call {
         CallB::Pixel(mode, word) => {
@@ -97,8 +91,6 @@ fn own(s: State, call: CallB, queue: &mut [u64], map: &mut [u8]) -> BTurn
 pub fn b_turn(s: State, call: Call, queue: &mut [u64], map: &mut [u8]) -> BTurn
     ensures { λ t. ⌜ BTook t (now (queue .exit)) (now (map .exit))
         (bTurn call (view (handed s (now (queue .entry)) (now (map .entry))))) ⌝ }
-    ensures { λ t. ⌜ Same (handed s (now (queue .entry)) (now (map .entry)))
-        (handed (t .state) (now (queue .exit)) (now (map .exit))) ⌝ }
 {
     match call {
         Call::Write(select, byte) => {

@@ -7,7 +7,7 @@ ghost use Rattle.version.specs.Version.{packed, written};
 
 const MAJOR: u8 = 0;
 
-const MINOR: u8 = 2;
+const MINOR: u8 = 3;
 
 const PATCH: u8 = 0;
 

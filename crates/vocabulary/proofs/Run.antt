@@ -2,10 +2,11 @@
 use mathlib.Core.Path.{_≡_, refl, sym, ap, _∙_}
 use mathlib.Core.Bool.{Bool, true, false}
 use mathlib.Core.List.{List, [], _∷_, _++_, append-assoc, map}
+use Rattle.vocabulary.specs.Choice.{pick}
 use Rattle.vocabulary.specs.Outcome.{Outcome}
-use Rattle.vocabulary.specs.Reply.{Reply, telling}
-use Rattle.vocabulary.specs.Run.{besides, after, gathered, Along, gatheredBesides}
-use Rattle.vocabulary.specs.Run.{replyTo, replies, Keeps, Unnoticed, Alike}
+use Rattle.vocabulary.specs.Reply.{Reply}
+use Rattle.vocabulary.specs.Run.{besides, after, gathered, Along, gatheredBesides, replyTo, repliesBesides}
+use Rattle.vocabulary.specs.Run.{Keeps, Unnoticed, Alike, RunsAlike}
 use Rattle.vocabulary.proofs.Choice.{picks-first, picks-second, cases}
 
 -- ---- One run
@@ -68,22 +69,32 @@ module _ {C J K : Type 0} (step : K → C → Outcome C) (as-call : J → K) whe
   after-map (j ∷ js) c = after-map js (step (as-call j) c .left)
 
 -- ---- Two chips under the same calls
-module _ {C D K : Type 0} (step : K → C → Outcome C) (other : K → D → Outcome D) (R : C → D → Type 0)
-    (alike : Alike step other R) where
-  -- a run leaves them related, ..
-  pub run-related : (ks : List K) (c : C) (d : D) → R c d → R (after step ks c) (after other ks d)
+module _ {C D K : Type 0} (step : K → C → Outcome C) (other : K → D → Outcome D) (kind : K → Bool)
+    (R : C → D → Type 0) (alike : Alike step other kind R) where
+  run-related : (ks : List K) (c : C) (d : D) → R c d → R (after step ks c) (after other ks d)
   unfolding after
   run-related [] c d r = r
-  run-related (k ∷ ks) c d r = run-related ks _ _ (alike k c d r .0)
+  run-related (k ∷ ks) c d r = run-related ks _ _ (alike .leaves k c d r)
 
-  -- .. and its calls tell the same of both
-  pub run-replies : (ks : List K) (c : C) (d : D) → R c d → replies step ks c ≡ replies other ks d
+  -- one call's reply, where it is not of the kind
+  heard : (k : K) (c : C) (d : D) → R c d
+      → pick (kind k) [] (replyTo step k c) ≡ pick (kind k) [] (replyTo other k d)
+  heard k c d r =
+      cases (kind k)
+      (λ e. picks-first [] (replyTo step k c) e ∙ sym (picks-first [] (replyTo other k d) e))
+      (λ e. ap (λ (t : Reply). pick (kind k) [] (t ∷ [])) (alike .tells k c d e r))
+
+  run-replies : (ks : List K) (c : C) (d : D) → R c d
+      → repliesBesides step kind ks c ≡ repliesBesides other kind ks d
   unfolding gathered
   run-replies [] c d r = refl
   run-replies (k ∷ ks) c d r =
-      let (s, e) = alike k c d r in
-      ap (λ (l : List Reply). telling (step k c) ∷ l) (run-replies ks _ _ s)
-      ∙ ap (λ (t : Reply). t ∷ replies other ks (other k d .left)) e
+      let h = heard k c d r in
+      let t = run-replies ks _ _ (alike .leaves k c d r) in
+      cc
+
+  pub runs-alike : RunsAlike step other kind R
+  runs-alike = record { leaves = run-related; replies = run-replies }
 
 -- ---- A run without the calls of a kind
 module _ {K : Type 0} (kind : K → Bool) where

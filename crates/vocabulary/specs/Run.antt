@@ -1,7 +1,7 @@
 -- Runs: calls made one after another, each on the chip that the call before left. A chip gives its type (C), the type
 -- of its calls (K) and what a call leaves and tells (`step`; every chip's is `called`). All here is of any chip.
 use mathlib.Core.Path.{_≡_}
-use mathlib.Core.Bool.{Bool}
+use mathlib.Core.Bool.{Bool, false}
 use mathlib.Core.List.{List, [], _∷_, _++_}
 use lib.Dec.{eqb}
 use Rattle.vocabulary.specs.Choice.{pick}
@@ -64,10 +64,17 @@ module _ {C K : Type 0} (step : K → C → Outcome C) where
         → repliesBesides kind ks c ≡ repliesBesides kind ls c
     pub ends : (ks ls : List K) (c : C) → besides kind ks ≡ besides kind ls → after ks c ≡ after ls c
 
--- Two chips, of one type or of two, related and under the same calls: every call leaves them related, and tells the
--- same of both.
-module _ {C D K : Type 0} (step : K → C → Outcome C) (other : K → D → Outcome D) where
-  abbrev pub Alike : (C → D → Type 0) → Type 0
-  Alike R =
-      (k : K) (c : C) (d : D) → R c d
-      → R (step k c .left) (other k d .left) × (telling (step k c) ≡ telling (other k d))
+-- Two chips, of one type or of two, related and under the same calls. Calls of a kind are apart: they may tell what
+-- they like.
+module _ {C D K : Type 0} (step : K → C → Outcome C) (other : K → D → Outcome D) (kind : K → Bool)
+    (R : C → D → Type 0) where
+  -- every call leaves them related, and tells the same of both
+  pub record Alike : Type 0 where
+    pub leaves : (k : K) (c : C) (d : D) → R c d → R (step k c .left) (other k d .left)
+    pub tells : (k : K) (c : C) (d : D) → kind k ≡ false → R c d → telling (step k c) ≡ telling (other k d)
+
+  -- hence over any run: related again after each call, and the same replies
+  pub record RunsAlike : Type 0 where
+    pub leaves : (ks : List K) (c : C) (d : D) → R c d → R (after step ks c) (after other ks d)
+    pub replies : (ks : List K) (c : C) (d : D) → R c d
+        → repliesBesides step kind ks c ≡ repliesBesides other kind ks d

@@ -1,16 +1,14 @@
-use Rattle.board_call.proofs.Turned.{turned-a, turned-b, turned-c, same-a, same-b, same-c}
+use Rattle.board_call.proofs.Turned.{turned-a, turned-b, turned-c}
 use borrow.Author.Needs.{needs}
 use Rattle.board_call.proofs.call.Statement.{statement}
 use Rattle.board_call.proofs.call.Tie as tie
 
 ruleset arms = (turned-a, turned-b, turned-c, needs)
 
-ruleset bytes = (same-a, same-b, same-c, needs)
-
 pub call-spec : {M : Type 1} → statement M
 call-spec =
     tie.close
     (tie.spec (λ c. search needs) (λ c κs. search needs) (λ c κs. search needs) (λ c. search needs)
     (λ c κs. search needs) (λ c κs. search needs) (λ c. search needs) (λ c κs. search needs) (λ c κs. search needs)
-    (λ c. search needs) (λ c. search needs) (λ c. (search arms, search bytes)) (λ c. search needs) (λ c. search needs)
-    (λ c. (search arms, search bytes)) (λ c. search needs) (λ c. (search arms, search bytes)))
+    (λ c. search needs) (λ c. search needs) (λ c. search arms) (λ c. search needs) (λ c. search needs)
+    (λ c. search arms) (λ c. search needs) (λ c. search arms))

@@ -1,4 +1,4 @@
-use Rattle.feed_take.proofs.Heard.{took-line, took-part, same-part}
+use Rattle.feed_take.proofs.Heard.{took-line, took-part}
 use Rattle.feed_take.proofs.take.Statement.{statement}
 use Rattle.feed_take.proofs.take.Tie as tie
 
@@ -16,18 +16,13 @@ returns : tie.Need-returns
 returns c =
     let h = heard c .before .hear .ensures in
     let a = answered c .answer .ensures in
-    (h .taken, (took-line _ _ _ _ _ _ _ _ _ h _ (asked c .if1 .taken) (a .0), a .1))
+    (h .taken, took-line _ _ _ _ _ _ _ _ _ h _ (asked c .if1 .taken) a)
 
 returns-2 : tie.Need-returns-2
 returns-2 c =
     let h = c .before .before .before .before .hear .ensures in
-    let s = c .silent .ensures in (
-      h .taken,
-      (
-        took-part _ _ _ _ _ _ _ _ _ h _ (c .before .if1 .left) (s .0) (s .1) (s .2),
-        same-part _ _ (s .0),
-      ),
-    )
+    let s = c .silent .ensures in
+    (h .taken, took-part _ _ _ _ _ _ _ _ _ h _ (c .before .if1 .left) (s .0) (s .1) (s .2))
 
 pub take-spec : {M : Type 1} → statement M
 take-spec =

@@ -12,7 +12,7 @@ use Rattle.ms622424_blank.proofs.zk_b_blank.Tie as tie
 abbrev given : tie.Start → Chip
 given c = view (handed (c .args .s) (c .args .queue .now) (c .args .map .now))
 
-known : (c : tie.Else1) → InRange (given (c .before .before .before .before .before))
+known : (c : tie.Else1) → InRange (given (c .before .before .before .before))
 known c = past _ (c .before .standing-tables .ensures) (c .if1 .left)
 
 returns-2 : tie.Need-returns-2
@@ -22,13 +22,13 @@ returns-2 c =
 
 returns-3 : tie.Need-returns-3
 returns-3 c =
-    let moved = c .before .before .before .before .before in
-    let past = moved .before .before .before .before in
+    let moved = c .before .before .before in
+    let past = moved .before .before .before in
     accepts _ _ _ _ _ _ _ (c .accepted .ensures) (blank-does _ _ (known past) (omega arith) (moved .transfer .ensures))
 
 pub zk-b-blank-spec : {M : Type 1} → statement M
 zk-b-blank-spec =
     tie.close
-    (tie.spec (λ c κs. search needs) (λ c κs. search needs) (λ c. search needs) (λ c. search (refuses, tried, needs))
-    (λ c κs. search needs) (λ c. search needs) returns-2 (λ c κs. known (c .before .before .before))
-    (λ c κs. search needs) (λ c. search needs) (λ c. search needs) returns-3)
+    (tie.spec (λ c κs. search needs) (λ c κs. search needs) (λ c. search (refuses, tried, needs)) (λ c κs. search needs)
+    returns-2 (λ c κs. known (c .before .before))
+    (λ c κs. search needs) (λ c. search needs) returns-3)

@@ -26,8 +26,9 @@ map-look-spec =
     tie.close
     (tie.spec (λ c κs. search)
     (λ c d g e.
-    looked-as _ (c .refused .ensures) (look-nowhere d g _ (c .before .before .before .pre .0) (λ l u. omega arith)))
+    let h = c .before .before .before .pre .0 in
+    looked-as _ (c .refused .ensures) (look-nowhere d g _ (h .0) (h .1) (λ l u. omega arith)))
     (λ c. search needs) reads (λ c κs. search) returns-2 (λ c κs. search)
     (λ c d g e.
-    looked-as _ (c .refused2 .ensures)
-    (look-nowhere d g _ (c .before .before .before .before .pre .0) (λ l u. omega arith))))
+    let h = c .before .before .before .before .pre .0 in
+    looked-as _ (c .refused2 .ensures) (look-nowhere d g _ (h .0) (h .1) (λ l u. omega arith))))

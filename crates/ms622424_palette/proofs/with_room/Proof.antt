@@ -11,14 +11,14 @@ use Rattle.ms622424_palette.proofs.with_room.Tie as tie
 
 take-byte-requires : tie.Need-take-byte-requires
 take-byte-requires c κs =
-    let room = c .before .before .before .before .before in
+    let room = c .before .before .before in
     has-room _ _ (room .make-room .last .1 .1 .0) _ _ (room .before .before .before .before .before .pre)
     (room .make-room .ensures)
 
 returns : tie.Need-returns
 returns c =
     let take = c .before .before .before in
-    let room = take .before .before .before .before .before .before in
+    let room = take .before .before .before .before in
     let r = room .make-room in
     let t = take .take-byte in
     ap (λ (x : Answer). seen (outcome x (t .last .1 .1 .0) (r .last .1 .1 .0))) (c .accepted .ensures)

@@ -1,6 +1,6 @@
 -- Refusal 1 by the length, 9 by the revision or the board (`reset-short`, `reset-outside`), for any map m, since none
--- is lent. Accepted, `empty` promises that no colour waits and the places are right, which with the registers set is
--- the fresh chip (`fresh-chip`, `reset-does`).
+-- is lent. Accepted, no colour waits, the first position is 0 and the registers are set: the fresh chip (`fresh-chip`,
+-- `reset-does`).
 use mathlib.Core.Path.{ap, _∙_}
 use native.Mathlib.Omega.{arith}
 use Rattle.vocabulary.specs.Outcome.{accepting}
@@ -23,16 +23,14 @@ returns-3 c m =
 
 returns-4 : tie.Need-returns-4
 returns-4 c m =
-    let emptied = c .before .before .before .before in
-    let past = emptied .before .before .before .before .before .before in
+    let past = c .before .before .before .before .before .before in
     let a = past .before .before .args in
-    let e = emptied .empty in
     accepts (a .s) (a .queue .now) m _ _ _ _ (c .accepted .ensures)
-    (ap (accepting 0 0) (fresh-chip (a .s) (a .queue .now) m _ (e .result) (e .kept .0) (e .ensures .0) (e .ensures .1))
+    (ap (accepting 0 0) (fresh-chip (a .s) (a .queue .now) m _ _ (omega arith) (omega arith))
     ∙ reset-does _ (past .if1 .left) (omega arith, (omega arith, tt)))
 
 pub zk-b-reset-spec : {M : Type 1} → statement M
 zk-b-reset-spec =
     tie.close
-    (tie.spec (λ c κs. search) returns (λ c κs. search) returns-2 (λ c κs. search) returns-3
-    (λ c κs. search) (λ c κs. search) (λ c. search) returns-4)
+    (tie.spec (λ c κs. search) returns (λ c κs. search) returns-2 (λ c κs. search) returns-3 (λ c κs. search)
+    returns-4)

@@ -1,23 +1,23 @@
--- The invariant: `moved` is past neither the slots nor what waits, and the map is the lent one with the first `moved`
--- places stored. A turn is `stored-next`. Either way out of the loop makes `moved` the least of the two.
+-- The invariant: `moved` is past neither the slots nor what waits, and the map is the lent one with `moved` places from
+-- the first position on stored. A turn is `stored-next`. Either way out of the loop makes `moved` the least of the two.
 use Prim.Native.Nat.{_-_, _≤_}
 use mathlib.Core.Path.{_≡_, ap, _∙_}
 use native.Mathlib.Omega.{arith}
-use lib.ListN.{length, take}
+use lib.ListN.{length}
 use Rattle.ms622424.specs.Ms622424.{allStored}
 use Rattle.ms622424.proofs.Moves.{all-stored-length}
-use Rattle.ms622424_places.specs.Places.{entriesIn}
-use Rattle.ms622424_store.proofs.Stores.{stored-next}
+use Rattle.ms622424_places.specs.Places.{entriesIn, ringed}
+use Rattle.ms622424_store.proofs.Stores.{low-at, stored-next}
 use borrow.Author.Needs.{needs}
 use Rattle.ms622424_store.proofs.store_oldest.Statement.{statement}
 use Rattle.ms622424_store.proofs.store_oldest.Tie as tie
 
 abbrev Inv-loop : tie.InvT-loop
-Inv-loop waiting slots queue map₀ moved₀ map moved =
-    (moved ≤ waiting) × (moved ≤ slots) × (map ≡ allStored (entriesIn (take moved queue)) map₀)
+Inv-loop first waiting slots queue map₀ moved₀ map moved =
+    (moved ≤ waiting) × (moved ≤ slots) × (map ≡ allStored (entriesIn (ringed first moved queue)) map₀)
 
 abbrev μ-loop : tie.MeasureT-loop
-μ-loop waiting slots queue map₀ moved₀ map moved = slots - moved
+μ-loop first waiting slots queue map₀ moved₀ map moved = slots - moved
 
 -- stores keep the map's length, which each of them asks, and the return
 kept : (c : tie.At-loop Inv-loop μ-loop) → length (c .loop .map) ≡ length (c .before .before .before .args .map .now)
@@ -26,8 +26,11 @@ kept c = ap length (c .loop .inv .2) ∙ all-stored-length _ _
 store-requires : tie.Need-store-requires Inv-loop μ-loop
 store-requires c κs =
     let start = c .before .before .before .before .before .before .before in
-    let at = c .before .before .before .before in
-    (kept at ∙ start .pre .0 .0, start .pre .1 (at .loop .moved) (omega arith))
+    let at = c .before .before .before .before in (
+      kept at ∙ start .pre .0 .0,
+      low-at (start .args .queue .now) (omega arith)
+          (start .pre .1 (at .loop .moved) (omega arith)),
+    )
 
 loop-again : tie.Need-loop-again Inv-loop μ-loop
 loop-again c =
@@ -35,14 +38,14 @@ loop-again c =
     let a = at .before .before .before .args in (
       omega arith,
       omega arith,
-      stored-next (a .queue .now) _ (at .loop .moved) (c .before .before .store .ensures) (at .loop .inv .2)
-          (omega arith),
+      stored-next (a .first) (a .queue .now) _ (at .loop .moved) (omega arith) (c .before .before .store .ensures)
+          (at .loop .inv .2),
     )
 
 pub store-oldest-spec : {M : Type 1} → statement M
-unfolding allStored
+unfolding allStored ringed
 store-oldest-spec =
     tie.close
-    (tie.spec Inv-loop μ-loop (λ c. search needs) (λ c. search needs) (λ c. search needs) store-requires
-    (λ c. search needs) (λ c. search needs) loop-again (λ c. kept (c .before)) (λ c. search needs)
+    (tie.spec Inv-loop μ-loop (λ c. search needs) (λ c. search needs) (λ c. search needs) (λ c. search needs)
+    store-requires (λ c. search needs) (λ c. search needs) loop-again (λ c. kept (c .before)) (λ c. search needs)
     (λ c. kept (c .before .before)) (λ c. search needs))

@@ -1,0 +1,4 @@
+pub mod Turned
+pub mod OldQueue
+pub mod OldCalls
+pub mod Ring

@@ -1,0 +1,2 @@
+pub mod OldQueue
+pub mod Ring
