@@ -38,15 +38,17 @@ int main(void) {
     blank(1);
 
     zk_b_state none = state; /* a state of which none wait.. */
-    put_colour(1, 0x10, 0x20, 0x30);
-    put_colour(2, 0x40, 0x50, 0x60);
-    zk_b_answer answer = zk_b_read(none, ZK_B_SELECT_STATUS, queue, ZK_B_PLACES, map, ZK_B_MAP);
-    printf("with the state from before two colours a read is refused: %s\n", zk_refusal_text(answer.refusal));
+    put_colour(0, 0x10, 0x20, 0x30);
+    unsigned status = zk_b_read(none, ZK_B_SELECT_STATUS, queue, ZK_B_PLACES, map, ZK_B_MAP).value;
+    printf("with the state from before a colour the status is 0x%02x, %s: the colour is lost\n", status,
+           status & ZK_B_STATUS_EFB ? "some wait" : "none wait");
 
-    zk_b_state two = state; /* ..and one of which two do */
+    zk_b_state one = state; /* ..and one of which one does */
     blank(1);
-    printf("with the state from before that slot, which says that 2 wait:\n");
-    state = two;
-    blank(2); /* the colour for entry 2, and an unused place: black, for entry 0 */
+    put_colour(0, 0x40, 0x50, 0x60);
+    blank(1);
+    printf("with the state from before these two slots, which says that 1 waits:\n");
+    state = one;
+    blank(1); /* what its place still holds, of which nothing is promised: here the older colour, over the newer */
     return 0;
 }

@@ -69,23 +69,30 @@ static zk_b_state state_b(void) {
     s.control.readmode = near(2, 8);
     s.ident.revision = near(8, 8);
     s.ident.board = near(16, 8);
+    s.fifo.first = near(64, 8);
     s.fifo.waiting = below(3) ? near(65, 8) : 64 * below(2);
     return s;
+}
+
+/* a write's answer, and the queue after it: the waiting entries, or every place where it is refused */
+static void see_written(struct seen *seen, zk_b_answer a, const uint64_t *queue) {
+    struct waits waits = flat_waits(a.state.fifo, queue);
+    see_row(seen, flat_b(a));
+    if (a.refusal == 0) see(seen, &waits, sizeof waits);
+    else see(seen, queue, ZK_B_PLACES * sizeof *queue);
 }
 
 static void any_b(struct lent *l, struct seen *seen) {
     zk_b_state s = state_b();
     uint8_t select = near(8, 8), byte = below(256), mode = near(4, 8), signals = near(16, 8), *m = l->map;
     uint32_t slots = below(2) ? below(70) : near(65536, 17), word = near(1 << 24, 30);
-    uint32_t place = look_at(9, ZK_B_LOOK_MAP, ZK_B_MAP);
+    uint32_t place = look_at(13, ZK_B_LOOK_MAP, ZK_B_MAP);
     size_t places = length(ZK_B_PLACES), bytes = length(sizeof l->map);
-    for (unsigned i = 0; i < ZK_B_PLACES; i++) {
-        l->queue[i] = i < s.fifo.waiting ? (uint64_t)below(8192) << 24 : 0;
-        l->queue[i] |= i < s.fifo.waiting ? below(1 << 24) : 0;
-    }
+    for (unsigned i = 0; i < ZK_B_PLACES; i++)
+        l->queue[(s.fifo.first + i) % ZK_B_PLACES] = random_bits() & (i < s.fifo.waiting ? 0x1fffffffff : UINT64_MAX);
     if (below(20) == 0) l->queue[below(ZK_B_PLACES)] = (uint64_t)1 << below(64);
     switch (below(7)) {
-    case 0: see_row(seen, flat_b(CALL(b_write)(s, select, byte, l->queue, places, m, bytes))); break;
+    case 0: see_written(seen, CALL(b_write)(s, select, byte, l->queue, places, m, bytes), l->queue); return;
     case 1: see_row(seen, flat_b(CALL(b_read)(s, select, l->queue, places, m, bytes))); break;
     case 2: see_row(seen, flat_b(CALL(b_blank)(s, slots, l->queue, places, m, bytes))); break;
     case 3: see_row(seen, flat_shown_b(CALL(b_pixel)(s, mode, word, l->queue, places, m, bytes))); break;

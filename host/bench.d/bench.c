@@ -1,7 +1,8 @@
 /* bench check | times | counts | log LINES | looks LINES | program COMMAND..: the measuring program of host/bench.
  *
  * check: every work once for the library, plain C and plain C that tests nothing, and calls on any input for the first
- *   two; all bytes of all answers and tables are compared by a checksum. Exits 1 where one differs.
+ *   two; all bytes of all answers and tables, of chip B's queue the waiting entries, are compared by a checksum. Exits
+ *   1 where one differs.
  * times: a line 'time TAB work TAB who TAB ns a call' each, the best of several runs.
  * counts: every work once, a line 'count TAB work TAB who TAB number TAB what it tests' each, then mark(); callgrind
  *   dumps there. Then every single call, a line 'single TAB chip TAB who TAB read or look TAB select or place' each.
@@ -30,9 +31,9 @@ static const struct {
 static const struct {
     char chip;
     const char *selects;
-    uint32_t numbers, ends[4];
+    uint32_t numbers, more[6]; /* places 0 to numbers - 1, and these, 0 behind the last */
 } chips[3] = {{'a', "0134567", 9, {0x100, 0x10b, 0x1000, 0x12ff}},
-              {'b', "01234567", 9, {0x10000, 0x12fff, 0x13000, 0x15fff}},
+              {'b', "01234567", 9, {0xc, 0x10000, 0x12fff, 0x13000, 0x15fff}},
               {'c', "456", 8, {0x10000, 0x105ff, 0x10600, 0x10bff}}};
 
 static void singles(void (*each)(struct single)) {
@@ -41,7 +42,7 @@ static void singles(void (*each)(struct single)) {
         for (const char *s = chips[k].selects; *s != 0; s++) call.at = (uint32_t)(*s - '0'), each(call);
         call.look = 1;
         for (call.at = 0; call.at < chips[k].numbers; call.at++) each(call);
-        for (unsigned i = 0; i < 4; i++) call.at = chips[k].ends[i], each(call);
+        for (const uint32_t *p = chips[k].more; *p != 0; p++) call.at = *p, each(call);
     }
 }
 
@@ -67,11 +68,13 @@ static void fill(void) {
     fill_sheets();
 }
 
-/* the number of all that a run answers and leaves in what it was lent */
+/* the number of all that a run answers and leaves in what it was lent; the waiting entries of chip B's queue, of which
+ * no more is promised, are among what was seen */
 static uint64_t all_of(void (*run)(struct lent *, struct seen *)) {
     struct seen seen = {0, 0, 1};
     fill();
     run(&lent, &seen);
+    memset(lent.queue, 0, sizeof lent.queue);
     return checksum(seen.number, &lent, sizeof lent);
 }
 

@@ -11,7 +11,7 @@ static uint8_t colours[ZK_A_COLOURS], overlays[ZK_A_OVERLAYS], map[ZK_B_MAP];
 static uint64_t queue[ZK_B_PLACES];
 static uint16_t table[ZK_C_TABLE];
 static zk_a_state a;
-static zk_b_state b = {{0, 0, 0, 0}, {3, 0}, {3, 5}, {0}};
+static zk_b_state b = {{0, 0, 0, 0}, {3, 0}, {3, 5}, {0, 0}};
 static zk_c_state c;
 static unsigned chosen; /* 0 A, 1 B, 2 C */
 

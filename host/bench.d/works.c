@@ -14,6 +14,14 @@
         }                                                               \
     } while (0)
 static void see_look(struct seen *seen, zk_looked l) { SEE(flat_look, l); }
+/* chip B's, with the waiting entries */
+static inline void see_b(const struct lent *lent, struct seen *seen, zk_b_answer a) {
+    SEE(flat_b, a);
+    if (seen->all) {
+        struct waits waits = flat_waits(a.state.fifo, lent->queue);
+        seen->number = checksum(seen->number, &waits, sizeof waits);
+    }
+}
 static void see_number(struct seen *seen, uint64_t answer) {
     seen->calls++;
     seen->number += zk_refusal(answer);
@@ -102,41 +110,54 @@ static void a_pixel_caption(struct lent *lent, struct seen *seen) { pixel_a(lent
 static void a_pixel_blinked(struct lent *lent, struct seen *seen) { pixel_a(lent, seen, 1, 0x40); }
 
 /* ---- chip B */
-static zk_b_state with_waiting(struct lent *lent, unsigned waiting) {
-    zk_b_state s = {{64, 0, 1, 2}, {3, 0}, {3, 5}, {(uint8_t)waiting}};
-    memcpy(lent->queue, lent->entries, waiting * sizeof *lent->queue);
-    memset(lent->queue + waiting, 0, (ZK_B_PLACES - waiting) * sizeof *lent->queue);
+/* so many wait from a first position on, up to the places' end and then from place 0 on */
+static zk_b_state with_ring(struct lent *lent, unsigned first, unsigned waiting) {
+    zk_b_state s = {{64, 0, 1, 2}, {3, 0}, {3, 5}, {(uint8_t)first, (uint8_t)waiting}};
+    unsigned room = ZK_B_PLACES - first, older = waiting < room ? waiting : room;
+    memcpy(lent->queue + first, lent->entries, older * sizeof *lent->queue);
+    memcpy(lent->queue, lent->entries + older, (waiting - older) * sizeof *lent->queue);
     return s;
 }
+static zk_b_state with_waiting(struct lent *lent, unsigned waiting) { return with_ring(lent, 0, waiting); }
 
-static void write_b(struct lent *lent, struct seen *seen, unsigned waiting) {
-    zk_b_answer a = {0, 0, 0, with_waiting(lent, waiting)};
+static void write_b(struct lent *lent, struct seen *seen, unsigned first, unsigned waiting) {
+    zk_b_answer a = {0, 0, 0, with_ring(lent, first, waiting)};
     for (unsigned i = 0; i < 192; i++) {
         a = CALL(b_write)(a.state, 2, (uint8_t)i, QUEUE, MAP);
-        SEE(flat_b, a);
+        see_b(lent, seen, a);
     }
 }
-static void b_write_filling(struct lent *lent, struct seen *seen) { write_b(lent, seen, 0); }
-static void b_write_full(struct lent *lent, struct seen *seen) { write_b(lent, seen, 64); }
+static void b_write_filling(struct lent *lent, struct seen *seen) { write_b(lent, seen, 0, 0); }
+static void b_write_full(struct lent *lent, struct seen *seen) { write_b(lent, seen, 0, 64); }
+static void b_write_round(struct lent *lent, struct seen *seen) { write_b(lent, seen, 32, 0); }
 
 static void b_write_address(struct lent *lent, struct seen *seen) {
     zk_b_answer a = {0, 0, 0, with_waiting(lent, 0)};
     for (unsigned i = 0; i < 192; i++) {
         a = CALL(b_write)(a.state, i & 1, (uint8_t)i, QUEUE, MAP);
-        SEE(flat_b, a);
+        see_b(lent, seen, a);
     }
 }
 
-static void blank_b(struct lent *lent, struct seen *seen, unsigned waiting, uint32_t slots, unsigned calls) {
-    zk_b_answer a = {0, 0, 0, with_waiting(lent, waiting)};
+static void blank_b(struct lent *lent, struct seen *seen, zk_b_state s, uint32_t slots, unsigned calls) {
+    zk_b_answer a = {0, 0, 0, s};
     for (unsigned i = 0; i < calls; i++) {
         a = CALL(b_blank)(a.state, slots, QUEUE, MAP);
-        SEE(flat_b, a);
+        see_b(lent, seen, a);
     }
 }
-static void b_blank_all(struct lent *lent, struct seen *seen) { blank_b(lent, seen, 64, 64, 1); }
-static void b_blank_one(struct lent *lent, struct seen *seen) { blank_b(lent, seen, 64, 1, 64); }
-static void b_blank_none(struct lent *lent, struct seen *seen) { blank_b(lent, seen, 0, 64, 64); }
+static void b_blank_all(struct lent *lent, struct seen *seen) {
+    blank_b(lent, seen, with_waiting(lent, 64), 64, 1);
+}
+static void b_blank_one(struct lent *lent, struct seen *seen) {
+    blank_b(lent, seen, with_waiting(lent, 64), 1, 64);
+}
+static void b_blank_round(struct lent *lent, struct seen *seen) {
+    blank_b(lent, seen, with_ring(lent, 32, 64), 1, 64);
+}
+static void b_blank_none(struct lent *lent, struct seen *seen) {
+    blank_b(lent, seen, with_waiting(lent, 0), 64, 64);
+}
 
 static void b_read_map(struct lent *lent, struct seen *seen) {
     zk_b_answer a = {0, 0, 0, with_waiting(lent, 0)};
@@ -147,13 +168,16 @@ static void b_read_map(struct lent *lent, struct seen *seen) {
     }
 }
 
-static void b_read_status(struct lent *lent, struct seen *seen) {
-    zk_b_answer a = {0, 0, 0, with_waiting(lent, 33)};
+static void read_status(struct lent *lent, struct seen *seen, unsigned first, unsigned waiting) {
+    zk_b_answer a = {0, 0, 0, with_ring(lent, first, waiting)};
     for (unsigned i = 0; i < 192; i++) {
         a = CALL(b_read)(a.state, 4, QUEUE, MAP);
         SEE(flat_b, a);
     }
 }
+static void b_read_status(struct lent *lent, struct seen *seen) { read_status(lent, seen, 0, 33); }
+static void b_read_status_full(struct lent *lent, struct seen *seen) { read_status(lent, seen, 0, 64); }
+static void b_read_status_round(struct lent *lent, struct seen *seen) { read_status(lent, seen, 48, 33); }
 
 static void b_read_registers(struct lent *lent, struct seen *seen) {
     static const uint8_t selects[4] = {0, 1, 3, 6};
@@ -175,23 +199,34 @@ static void look_map(struct lent *lent, struct seen *seen, unsigned waiting) {
 static void b_look_map(struct lent *lent, struct seen *seen) { look_map(lent, seen, 0); }
 static void b_look_map_waiting(struct lent *lent, struct seen *seen) { look_map(lent, seen, 33); }
 
-static void pixel_b(struct lent *lent, struct seen *seen, unsigned waiting, uint8_t mode) {
-    zk_b_state s = with_waiting(lent, waiting);
+static void pixel_b(struct lent *lent, struct seen *seen, zk_b_state s, uint8_t mode) {
     for (uint32_t i = 0; i < 256; i++) {
         zk_b_shown a = CALL(b_pixel)(s, mode, 0x010305 * i & 0xffffff, QUEUE, MAP);
         SEE(flat_shown_b, a);
     }
 }
-static void b_pixel_0(struct lent *lent, struct seen *seen) { pixel_b(lent, seen, 0, 0); }
-static void b_pixel_0_waiting(struct lent *lent, struct seen *seen) { pixel_b(lent, seen, 33, 0); }
+static void b_pixel_0(struct lent *lent, struct seen *seen) { pixel_b(lent, seen, with_waiting(lent, 0), 0); }
+static void b_pixel_0_waiting(struct lent *lent, struct seen *seen) {
+    pixel_b(lent, seen, with_waiting(lent, 33), 0);
+}
+static void b_pixel_0_full(struct lent *lent, struct seen *seen) { pixel_b(lent, seen, with_waiting(lent, 64), 0); }
+static void b_pixel_0_round(struct lent *lent, struct seen *seen) { pixel_b(lent, seen, with_ring(lent, 48, 33), 0); }
 static void b_pixel_123(struct lent *lent, struct seen *seen) {
-    for (uint8_t mode = 1; mode < 4; mode++) pixel_b(lent, seen, 0, mode);
+    for (uint8_t mode = 1; mode < 4; mode++) pixel_b(lent, seen, with_waiting(lent, 0), mode);
 }
 
 static void b_sync(struct lent *lent, struct seen *seen) {
     zk_b_state s = with_waiting(lent, 0);
     for (uint8_t i = 0; i < 16; i++) {
         zk_b_answer a = CALL(b_sync)(s, i, QUEUE);
+        SEE(flat_b, a);
+    }
+}
+
+static void b_reset(struct lent *lent, struct seen *seen) {
+    zk_b_state s = with_waiting(lent, 64);
+    for (unsigned i = 0; i < 64; i++) {
+        zk_b_answer a = CALL(b_reset)(s, QUEUE);
         SEE(flat_b, a);
     }
 }
@@ -296,7 +331,7 @@ static void single(struct lent *lent, struct seen *seen, struct single call) {
 run_single *const CALL(single) = single;
 
 #define A_TESTS "2 lengths, 5 ranges of the state"
-#define B_TESTS "2 lengths, 7 ranges of the state, 64 places of the queue"
+#define B_TESTS "2 lengths, 8 ranges of the state, the waiting places of the queue"
 #define C_TESTS "the length, 6 ranges of the state"
 #define EXPAND_TESTS "the width, the value"
 const struct work CALL(works)[WORKS] = {
@@ -315,20 +350,27 @@ const struct work CALL(works)[WORKS] = {
     {"A pixel, overlay blinked off", a_pixel_blinked, 1, A_TESTS ", 2 of the pixel"},
     {"B write colours, queue filling", b_write_filling, 1, B_TESTS},
     {"B write colours, queue full", b_write_full, 1, B_TESTS},
+    {"B write colours, round the end", b_write_round, 1, B_TESTS},
     {"B write address, queue empty", b_write_address, 1, B_TESTS},
     {"B blank, 64 slots, 64 waiting", b_blank_all, 1, B_TESTS ", the slots"},
     {"B blank, 1 slot, 64 to 1 waiting", b_blank_one, 1, B_TESTS ", the slots"},
+    {"B blank, 1 slot, round the end", b_blank_round, 1, B_TESTS ", the slots"},
     {"B blank, none waiting", b_blank_none, 1, B_TESTS ", the slots"},
     {"B read, map", b_read_map, 1, B_TESTS},
     {"B read, status, 33 waiting", b_read_status, 1, B_TESTS},
+    {"B read, status, round the end", b_read_status_round, 1, B_TESTS},
+    {"B read, status, 64 waiting", b_read_status_full, 1, B_TESTS},
     {"B read, registers", b_read_registers, 1, B_TESTS},
     {"B look, state", b_look_state, 1, B_TESTS},
     {"B look, map", b_look_map, 1, B_TESTS},
     {"B look, map, 33 waiting", b_look_map_waiting, 1, B_TESTS},
     {"B pixel, mode 0", b_pixel_0, 1, B_TESTS ", mode and word"},
     {"B pixel, mode 0, 33 waiting", b_pixel_0_waiting, 1, B_TESTS ", mode and word"},
+    {"B pixel, mode 0, round the end", b_pixel_0_round, 1, B_TESTS ", mode and word"},
+    {"B pixel, mode 0, 64 waiting", b_pixel_0_full, 1, B_TESTS ", mode and word"},
     {"B pixel, modes 1 to 3", b_pixel_123, 1, B_TESTS ", mode and word"},
-    {"B timing signals", b_sync, 1, "1 length, 7 ranges of the state, 64 places of the queue, the signals"},
+    {"B timing signals", b_sync, 1, "1 length, 8 ranges of the state, the waiting places of the queue, the signals"},
+    {"B reset, 64 waiting", b_reset, 1, "1 length, 2 ranges of the state"},
     {"C write, 1,024 colours", c_write_table, 1, C_TESTS},
     {"C read, 1,024 colours", c_read_table, 1, C_TESTS},
     {"C read, index", c_read_index, 1, C_TESTS},

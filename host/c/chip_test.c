@@ -1,7 +1,7 @@
 /* The whole chips of the headers, zk_a_chip, zk_b_chip and zk_c_chip, and chip A's sheets: each inline call beside
  * plain C (host/plain) on the same state and tables, in runs from chips in range and out of it. What a call tells and
- * the whole chip after it are compared; chips A and C have no bytes between their parts. By hand: what zeroed chips
- * are. And the version of the library, which is the header's. */
+ * the whole chip after it are compared, of chip B's queue the waiting entries; chips A and C have no bytes between
+ * their parts. By hand: what zeroed chips are. And the version of the library, which is the header's. */
 #include "check.h"
 
 /* all of them; the lengths are right, so that refusal 1 can't be */
@@ -22,7 +22,7 @@ static struct flat value(zk_told t) { return told(t.refusal, t.value, 0); }
 static struct flat count(zk_moved m) { return told(m.refusal, 0, m.count); }
 
 static uint32_t any_place(void) {
-    return below(3) ? some_place(0, 9) : some_place(below(2) ? ZK_A_LOOK_COLOURS : ZK_B_LOOK_MAP, 768);
+    return below(3) ? some_place(0, 13) : some_place(below(2) ? ZK_A_LOOK_COLOURS : ZK_B_LOOK_MAP, 768);
 }
 
 /* ---- chip A */
@@ -104,12 +104,14 @@ static void sheets_of_chip_a(void) {
 #define QUEUE_B plain->queue, ZK_B_PLACES
 #define PARTS_B QUEUE_B, plain->map, ZK_B_MAP
 
-static unsigned long forced; /* writes that moved entries */
+static unsigned long forced, wrapped; /* writes that moved entries, and calls with entries round the places' end */
 
-static void step_b(zk_b_chip *chip, zk_b_chip *plain) {
+/* a call on both; whether it may have changed places of the queue */
+static int step_b(zk_b_chip *chip, zk_b_chip *plain) {
     uint8_t select = (uint8_t)below(9), byte = (uint8_t)below(256), mode = (uint8_t)below(5);
     uint32_t place = any_place(), slots = below(20) ? below(5) : 65536, kind = below(400);
     zk_b_answer a = {0, 0, 0, plain->state};
+    wrapped += plain->state.fifo.first + plain->state.fifo.waiting > ZK_B_PLACES;
     if (kind < 300) {
         select = kind < 284 ? 2 : kind < 289 ? 7 : select;
         a = plain_b_write(plain->state, select, byte, PARTS_B);
@@ -135,16 +137,27 @@ static void step_b(zk_b_chip *chip, zk_b_chip *plain) {
         same("b reset", told(zk_b_chip_reset(chip), 0, 0), flat_b(a));
     }
     plain->state = a.state;
+    return kind < 300 && a.refusal == 0;
 }
 
-/* a chip whose queue is full or empty; now and then the revision is out of range */
+/* a chip whose queue is full or empty, from any position on; now and then the revision is out of range */
 static void make_chip_b(zk_b_chip *chip) {
     memset(chip, 0, sizeof *chip);
     for (unsigned i = 0; i < ZK_B_MAP; i++) chip->map[i] = (uint8_t)random_bits();
     chip->state.ident.revision = (uint8_t)below(9), chip->state.ident.board = (uint8_t)below(16);
-    if (below(2)) return;
-    chip->state.fifo.waiting = ZK_B_PLACES;
-    for (unsigned i = 0; i < ZK_B_PLACES; i++) chip->queue[i] = random_bits() & 0x1fffffffff;
+    chip->state.fifo.first = (uint8_t)below(ZK_B_PLACES);
+    chip->state.fifo.waiting = below(2) ? ZK_B_PLACES : 0;
+    for (unsigned i = 0; i < ZK_B_PLACES; i++)
+        chip->queue[i] = chip->state.fifo.waiting ? random_bits() & 0x1fffffffff : UINT64_MAX;
+}
+
+/* the state, the waiting entries and the map */
+static int same_chip_b(const zk_b_chip *chip, const zk_b_chip *plain) {
+    zk_b_answer got = {0, 0, 0, chip->state}, want = {0, 0, 0, plain->state};
+    struct flat g = flat_b(got), w = flat_b(want);
+    struct waits ours = flat_waits(chip->state.fifo, chip->queue), theirs = flat_waits(want.state.fifo, plain->queue);
+    return memcmp(&g, &w, sizeof g) == 0 && memcmp(&ours, &theirs, sizeof ours) == 0
+           && memcmp(chip->map, plain->map, sizeof chip->map) == 0;
 }
 
 static void runs_on_chip_b(void) {
@@ -153,12 +166,11 @@ static void runs_on_chip_b(void) {
         make_chip_b(&chip);
         plain = chip;
         for (int i = 0; i < 150; i++) {
-            step_b(&chip, &plain);
-            zk_b_answer got = {0, 0, 0, chip.state}, want = {0, 0, 0, plain.state};
-            struct flat g = flat_b(got), w = flat_b(want);
-            CHECK(memcmp(&g, &w, sizeof g) == 0 && memcmp(chip.queue, plain.queue, sizeof chip.queue) == 0
-                      && memcmp(chip.map, plain.map, sizeof chip.map) == 0,
-                  "chip B after step %d of run %d", i, run);
+            uint64_t before[ZK_B_PLACES];
+            memcpy(before, chip.queue, sizeof before);
+            int written = step_b(&chip, &plain);
+            CHECK(same_chip_b(&chip, &plain), "chip B after step %d of run %d", i, run);
+            CHECK(written || memcmp(chip.queue, before, sizeof before) == 0, "a place after step %d of run %d", i, run);
         }
     }
 }
@@ -224,6 +236,7 @@ static void the_version(void) {
 static void refusals_met(void) {
     check_met(&calls, 100);
     CHECK(forced >= 100, "a full queue was met %lu times", forced);
+    CHECK(wrapped >= 1000, "a wrapped queue was met %lu times", wrapped);
 }
 
 int main(void) {

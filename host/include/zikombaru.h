@@ -2,7 +2,7 @@
  * C++11 on. It brings all parts: a header for each chip, for looks, for chip A's sheets, and for what they share.
  *
  * The library, libzikombaru.a, is for x86-64 Linux. It allocates nothing and makes no system call; of the C library it
- * needs memcpy, memmove and memset alone.
+ * needs memcpy alone.
  *
  * Conventions, for every call of this library:
  *
@@ -25,8 +25,8 @@
  *    zk_b_reset reads its ident alone, zk_a_step and zk_a_tick have the clock alone, and the clock of zk_a_tick is
  *    lent and changed in place.
  *  - Keep the state of every answer. It comes back from each call that may change it. Lent tables are changed in
- *    place, so that a state from before the call no longer fits them: chip B refuses the two in its next call, or
- *    moves entries that are not there (examples/lent.c).
+ *    place, so that a state from before the call no longer fits them: chip B then loses waiting entries, or takes what
+ *    an unused place still holds for one (examples/lent.c).
  *  - Chips. Who does not want to keep state and tables apart takes a zk_a_chip, zk_b_chip or zk_c_chip, which holds
  *    both, and the calls named after it (zk_a_chip_write and so on): the same calls, that keep the state in the chip.
  *  - Answers. The expander and the calls on sheets answer one number of 64 bits: zk_refusal, zk_value, zk_count,
@@ -51,9 +51,9 @@ extern "C" {
 
 /* The version of this header. While the major number is 0, the minor one steps when a caller must change something. */
 #define ZK_VERSION_MAJOR 0
-#define ZK_VERSION_MINOR 2
+#define ZK_VERSION_MINOR 3
 #define ZK_VERSION_PATCH 0
-#define ZK_VERSION_TEXT "0.2.0"
+#define ZK_VERSION_TEXT "0.3.0"
 #define ZK_VERSION (ZK_VERSION_MAJOR * 65536 + ZK_VERSION_MINOR * 256 + ZK_VERSION_PATCH)
 
 /* The version of the library that is linked: the same packed number, and the same text, with zeros behind it. */

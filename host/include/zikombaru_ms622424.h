@@ -46,12 +46,14 @@ extern "C" {
 
 /* The two lent tables, in their elements, which are their lengths.
  *
- *  - queue, ZK_B_PLACES numbers: the waiting entries, the oldest first, one number an entry (zk_b_entry); the places
- *    behind the state's waiting ones are 0. A call that finds them otherwise is ZK_OUT_OF_RANGE.
+ *  - queue, ZK_B_PLACES numbers: a ring, one number an entry (zk_b_entry). The oldest waiting entry is at the state's
+ *    first position, each younger one a place further, place 0 behind place 63; the first position steps by one with
+ *    each entry that is moved into the map. The places in which no entry waits may hold anything, before a call and
+ *    after it: no call reads them.
  *  - map, ZK_B_MAP bytes: ZK_B_ENTRIES colours, entry e with red at byte 3 * e, green and blue behind it. Any bytes
  *    are allowed.
  *
- * zk_b_write and zk_b_blank may change both tables, zk_b_reset the queue; the others change nothing. */
+ * zk_b_write may change both tables, zk_b_blank the map; the others change neither. */
 #define ZK_B_PLACES 64
 #define ZK_B_ENTRIES 8192
 #define ZK_B_MAP (ZK_COMPONENTS * ZK_B_ENTRIES)
@@ -124,7 +126,9 @@ typedef struct zk_b_ident {
     uint8_t board;    /* 0 to 15 */
 } zk_b_ident;
 
+/* how the queue stands in its places; version 0.2.0 had no first position, and kept the other places 0 */
 typedef struct zk_b_fifo {
+    uint8_t first;   /* below 64 */
     uint8_t waiting; /* 0 to 64 */
 } zk_b_fifo;
 
@@ -159,8 +163,8 @@ static inline uint64_t zk_b_entry(uint16_t address, uint8_t red, uint8_t green, 
 }
 
 /* Every call but reset refuses, before all else, with ZK_LENT_LENGTH a table that it is lent without its length, then
- * with ZK_OUT_OF_RANGE a state or a queue out of range: a field, an unused place of the queue that is not 0, a waiting
- * address of 8,192 or more. What else it refuses stands beside it, in the order of trying. */
+ * with ZK_OUT_OF_RANGE a state or a queue out of range: a field, or a waiting address of 8,192 or more. What else it
+ * refuses stands beside it, in the order of trying. */
 
 /* A write of a byte to a select. The count is 4 where a full queue made room first, else 0. Then ZK_NO_ACCESS: selects
  * 4, 5, 6 and over 7; ZK_READ_MODE: select 2 in read mode. */
@@ -173,7 +177,7 @@ ZK_ANSWER zk_b_answer zk_b_read(zk_b_state state, uint8_t select, const uint64_t
                                 const uint8_t *map, size_t map_length);
 
 /* The places of a look: one number each, but for the map, whose byte i stands at ZK_B_LOOK_MAP + i. The waiting
- * entries are no places; how many wait is one. */
+ * entries are no places; how many wait is one, and the first position. */
 enum zk_b_place {
     ZK_B_LOOK_ADDRESS = 0x0,
     ZK_B_LOOK_COUNTER = 0x1,
@@ -184,6 +188,7 @@ enum zk_b_place {
     ZK_B_LOOK_REVISION = 0x6,
     ZK_B_LOOK_BOARD = 0x7,
     ZK_B_LOOK_WAITING = 0x8,
+    ZK_B_LOOK_FIRST = 0xc,  /* the queue's first position; 0x9, 0xa and 0xb are not there */
     ZK_B_LOOK_MAP = 0x10000 /* the map's first byte, of ZK_B_MAP */
 };
 
@@ -194,8 +199,8 @@ ZK_ANSWER zk_looked zk_b_look(zk_b_state state, uint32_t place, const uint64_t *
 
 /* A blanking period of 0 to 65,535 slots, each of which moves the oldest entry, if one waits, into the map: the count
  * is the smaller of slots and waiting. More slots are ZK_OUT_OF_RANGE. */
-ZK_ANSWER zk_b_answer zk_b_blank(zk_b_state state, uint32_t slots, uint64_t *queue, size_t queue_length, uint8_t *map,
-                                 size_t map_length);
+ZK_ANSWER zk_b_answer zk_b_blank(zk_b_state state, uint32_t slots, const uint64_t *queue, size_t queue_length,
+                                 uint8_t *map, size_t map_length);
 
 /* The colour of a pixel of 24 bits, in a mode of zk_b_mode, from the map as stored. A mode over 3 and a word of 2^24
  * or more are ZK_OUT_OF_RANGE. */
@@ -206,11 +211,11 @@ ZK_ANSWER zk_b_shown zk_b_pixel(zk_b_state state, uint8_t mode, uint32_t word, c
  * is lent no map. Signals over 15 are ZK_OUT_OF_RANGE. */
 ZK_ANSWER zk_b_answer zk_b_sync(zk_b_state state, uint8_t signals, const uint64_t *queue, size_t queue_length);
 
-/* A reset: the queue is emptied; address, counter, kept red and green become 0, the command register 0x03, read mode
- * off; revision and board number are kept, and so is the map, which it is not lent. It accepts every other state, a
- * bad queue too. Refusals, in this order: ZK_LENT_LENGTH, the queue; ZK_OUT_OF_RANGE, a revision over 7 or a board
- * number over 15. */
-ZK_ANSWER zk_b_answer zk_b_reset(zk_b_state state, uint64_t *queue, size_t queue_length);
+/* A reset: none wait, and the first position is 0; address, counter, kept red and green become 0, the command register
+ * 0x03, read mode off; revision and board number are kept, and so is the map, which it is not lent. It reads no place
+ * of the queue, and accepts every other state. Refusals, in this order: ZK_LENT_LENGTH, the queue; ZK_OUT_OF_RANGE, a
+ * revision over 7 or a board number over 15. */
+ZK_ANSWER zk_b_answer zk_b_reset(zk_b_state state, const uint64_t *queue, size_t queue_length);
 
 /* A whole chip: the state and its tables, some 25,000 bytes, so that ZK_LENT_LENGTH can't be. Zeroed it is in range,
  * with a black map; a reset should follow, as for the state. The calls are those above on its parts, and keep the

@@ -6,8 +6,8 @@
 #include "zikombaru.h"
 
 struct flat {
-    uint16_t told[6];  /* refusal, value, count, red, green, blue */
-    uint16_t state[9]; /* in the order of a look's places */
+    uint16_t told[6];   /* refusal, value, count, red, green, blue */
+    uint16_t state[10]; /* in the order of a look's places */
 };
 
 static inline struct flat flat_a(zk_a_answer a) {
@@ -22,8 +22,20 @@ static inline struct flat flat_b(zk_b_answer a) {
     zk_b_state s = a.state;
     struct flat flat = {{a.refusal, a.value, a.count},
                         {s.port.address, s.port.counter, s.port.red, s.port.green, s.control.command,
-                         s.control.readmode, s.ident.revision, s.ident.board, s.fifo.waiting}};
+                         s.control.readmode, s.ident.revision, s.ident.board, s.fifo.waiting, s.fifo.first}};
     return flat;
+}
+
+/* What a call promises of chip B's queue: the waiting entries, the oldest first, and 0 behind them. A state out of its
+ * ranges has none. */
+struct waits {
+    uint64_t entry[ZK_B_PLACES];
+};
+static inline struct waits flat_waits(zk_b_fifo fifo, const uint64_t *queue) {
+    struct waits waits = {{0}};
+    for (unsigned i = 0; i < fifo.waiting && fifo.waiting <= ZK_B_PLACES; i++)
+        waits.entry[i] = queue[(fifo.first + i) % ZK_B_PLACES];
+    return waits;
 }
 
 static inline struct flat flat_c(zk_c_answer a) {

@@ -1,5 +1,5 @@
-/* plain.h: the library's calls in plain C, written from document 01 and requests P3 and P5 of document 02, not from the
- * Rattle code. The C tests (host/c) compare the library with these, call by call; host/bench measures it against them.
+/* plain.h: the library's calls in plain C, written from document 01 and document 02's requests, not from the Rattle
+ * code. The C tests (host/c) compare the library with these, call by call; host/bench measures it against them.
  *
  * Types, names and order of arguments are those of zikombaru.h. The sources are compiled with CHECKED 1 or 0. With 1
  * the calls are plain_..: the same contract, any input, the refusals in their order. With 0, for the bench alone, they
@@ -31,11 +31,12 @@
                            size_t bytes);                                                                              \
     zk_looked p##_b_look(zk_b_state s, uint32_t place, const uint64_t *queue, size_t places, const uint8_t *map,       \
                          size_t bytes);                                                                                \
-    zk_b_answer p##_b_blank(zk_b_state s, uint32_t slots, uint64_t *queue, size_t places, uint8_t *map, size_t bytes); \
+    zk_b_answer p##_b_blank(zk_b_state s, uint32_t slots, const uint64_t *queue, size_t places, uint8_t *map,          \
+                            size_t bytes);                                                                             \
     zk_b_shown p##_b_pixel(zk_b_state s, uint8_t mode, uint32_t word, const uint64_t *queue, size_t places,            \
                            const uint8_t *map, size_t bytes);                                                          \
     zk_b_answer p##_b_sync(zk_b_state s, uint8_t signals, const uint64_t *queue, size_t places);                       \
-    zk_b_answer p##_b_reset(zk_b_state s, uint64_t *queue, size_t places);                                             \
+    zk_b_answer p##_b_reset(zk_b_state s, const uint64_t *queue, size_t places);                                       \
     zk_c_answer p##_c_write(zk_c_state s, uint8_t port, uint8_t byte, uint16_t *table, size_t length);                 \
     zk_c_answer p##_c_read(zk_c_state s, uint8_t port, const uint16_t *table, size_t length);                          \
     zk_looked p##_c_look(zk_c_state s, uint32_t place, const uint16_t *table, size_t length);                          \

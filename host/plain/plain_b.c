@@ -1,15 +1,13 @@
-/* Chip B in plain C, from document 01, "Chip B", and document 02, P5. */
+/* Chip B in plain C, from document 01, "Chip B", and document 02, P5 and P7. */
 #include "plain.h"
 
-#include <string.h>
-
-/* Every waiting entry has an address below 8,192, and every other place is zero. No branch in either loop. */
-static int queue_in_range(const uint64_t *queue, unsigned waiting) {
-    uint64_t used = 0, unused = 0;
-    unsigned i;
-    for (i = 0; i < waiting; i++) used |= queue[i];
-    for (; i < ZK_B_PLACES; i++) unused |= queue[i];
-    return used < (uint64_t)ZK_B_ENTRIES << 24 && unused == 0;
+/* Every waiting entry has an address below 8,192: those up to the places' end, then those from place 0 on. */
+static int queue_in_range(const uint64_t *queue, zk_b_fifo fifo) {
+    unsigned end = fifo.first + fifo.waiting, split = end < ZK_B_PLACES ? end : ZK_B_PLACES, i;
+    uint64_t all = 0;
+    for (i = fifo.first; i < split; i++) all |= queue[i];
+    for (; i < end; i++) all |= queue[i - ZK_B_PLACES];
+    return all < (uint64_t)ZK_B_ENTRIES << 24;
 }
 
 /* refusals 1 and 9; a call that is lent no map gives its size as ZK_B_MAP */
@@ -17,9 +15,10 @@ static unsigned standing(zk_b_state s, const uint64_t *queue, size_t places, siz
     if (!CHECKED) return 0;
     if (places != ZK_B_PLACES || bytes != ZK_B_MAP) return ZK_LENT_LENGTH;
     if (s.port.address >= ZK_B_ENTRIES || s.port.counter > 2 || (s.control.command & ZK_B_COMMAND_RESERVED) != 0
-        || s.control.readmode > 1 || s.ident.revision > 7 || s.ident.board > 15 || s.fifo.waiting > ZK_B_PLACES)
+        || s.control.readmode > 1 || s.ident.revision > 7 || s.ident.board > 15 || s.fifo.first >= ZK_B_PLACES
+        || s.fifo.waiting > ZK_B_PLACES)
         return ZK_OUT_OF_RANGE;
-    return queue_in_range(queue, s.fifo.waiting) ? 0 : ZK_OUT_OF_RANGE;
+    return queue_in_range(queue, s.fifo) ? 0 : ZK_OUT_OF_RANGE;
 }
 
 static zk_b_answer answer(unsigned refusal, unsigned value, unsigned count, zk_b_state s) {
@@ -28,16 +27,16 @@ static zk_b_answer answer(unsigned refusal, unsigned value, unsigned count, zk_b
 }
 
 /* the smaller of slots and waiting entries go into the map, the oldest first */
-static unsigned transfer(zk_b_state *s, uint32_t slots, uint64_t *queue, uint8_t *map) {
-    unsigned waiting = s->fifo.waiting, moved = slots < waiting ? slots : waiting, i;
+static unsigned transfer(zk_b_state *s, uint32_t slots, const uint64_t *queue, uint8_t *map) {
+    unsigned first = s->fifo.first, waiting = s->fifo.waiting, moved = slots < waiting ? slots : waiting, i;
     for (i = 0; i < moved; i++) {
-        uint8_t *entry = map + 3 * (queue[i] >> 24);
-        entry[0] = (uint8_t)queue[i];
-        entry[1] = (uint8_t)(queue[i] >> 8);
-        entry[2] = (uint8_t)(queue[i] >> 16);
+        uint64_t oldest = queue[(first + i) % ZK_B_PLACES];
+        uint8_t *entry = map + 3 * (oldest >> 24);
+        entry[0] = (uint8_t)oldest;
+        entry[1] = (uint8_t)(oldest >> 8);
+        entry[2] = (uint8_t)(oldest >> 16);
     }
-    memmove(queue, queue + moved, (waiting - moved) * sizeof *queue);
-    memset(queue + waiting - moved, 0, moved * sizeof *queue);
+    s->fifo.first = (uint8_t)((first + moved) % ZK_B_PLACES);
     s->fifo.waiting = (uint8_t)(waiting - moved);
     return moved;
 }
@@ -59,7 +58,8 @@ static zk_b_answer palette_write(zk_b_state s, uint8_t byte, uint64_t *queue, ui
     } else if (s.port.counter == 1) {
         s.port.green = byte;
     } else {
-        queue[s.fifo.waiting++] = zk_b_entry(s.port.address, s.port.red, s.port.green, byte);
+        unsigned end = s.fifo.first + s.fifo.waiting++;
+        queue[end % ZK_B_PLACES] = zk_b_entry(s.port.address, s.port.red, s.port.green, byte);
     }
     return answer(0, 0, moved, stepped(s));
 }
@@ -135,11 +135,13 @@ zk_looked NAME(b_look)(zk_b_state s, uint32_t place, const uint64_t *queue, size
     case ZK_B_LOOK_REVISION: return looked(0, s.ident.revision);
     case ZK_B_LOOK_BOARD: return looked(0, s.ident.board);
     case ZK_B_LOOK_WAITING: return looked(0, s.fifo.waiting);
+    case ZK_B_LOOK_FIRST: return looked(0, s.fifo.first);
     default: return looked(ZK_NO_ACCESS, 0);
     }
 }
 
-zk_b_answer NAME(b_blank)(zk_b_state s, uint32_t slots, uint64_t *queue, size_t places, uint8_t *map, size_t bytes) {
+zk_b_answer NAME(b_blank)(zk_b_state s, uint32_t slots, const uint64_t *queue, size_t places, uint8_t *map,
+                          size_t bytes) {
     unsigned refusal = standing(s, queue, places, bytes), moved;
     if (CHECKED && refusal == 0 && slots > 65535) refusal = ZK_OUT_OF_RANGE;
     if (refusal != 0) return answer(refusal, 0, 0, s);
@@ -174,10 +176,10 @@ zk_b_answer NAME(b_sync)(zk_b_state s, uint8_t signals, const uint64_t *queue, s
     return answer(0, (signals & s.control.command & 3) | ((signals | s.control.command) & 12), 0, s);
 }
 
-zk_b_answer NAME(b_reset)(zk_b_state s, uint64_t *queue, size_t places) {
-    zk_b_state fresh = {{0, 0, 0, 0}, {3, 0}, s.ident, {0}};
+zk_b_answer NAME(b_reset)(zk_b_state s, const uint64_t *queue, size_t places) {
+    zk_b_state fresh = {{0, 0, 0, 0}, {3, 0}, s.ident, {0, 0}};
+    (void)queue;
     if (CHECKED && places != ZK_B_PLACES) return answer(ZK_LENT_LENGTH, 0, 0, s);
     if (CHECKED && (s.ident.revision > 7 || s.ident.board > 15)) return answer(ZK_OUT_OF_RANGE, 0, 0, s);
-    memset(queue, 0, ZK_B_PLACES * sizeof *queue);
     return answer(0, 0, 0, fresh);
 }

@@ -2,10 +2,12 @@
 //!
 //! Document 01, "Chip B" and "The nine refusals", decides, over data sheet 004: the truth table with its notes 1 and
 //! 2, the register tables, "Write FIFO", PIX.RGB0 and 1, RSB; then the rulings under "All chips" and "Chip B". Of the
-//! look, document 02, P5, and the replay's list of places.
+//! look, document 02, P5, and the replay's list of places; of the queue's places, document 02, P7.
 //!
-//! The queue is lent beside the map: 64 places, one entry a place, oldest first, unused places zero. In a place red
-//! has bits 0 to 7, green 8 to 15, blue 16 to 23, and the address has the rest from bit 24 up.
+//! The queue is lent beside the map: 64 places, one entry a place, the oldest at the first position, each younger one a
+//! place further, place 0 behind place 63. In a place red has bits 0 to 7, green 8 to 15, blue 16 to 23, and the
+//! address has the rest from bit 24 up. Each call takes the waiting entries out of their places and puts those that
+//! still wait back; unused places may hold anything, and are left full of ones, so that nothing can rest on them.
 //!
 //! Doubts and choices:
 //! - Selects 0, 1, 3 and 7 work alike in both modes; the buffer read (select 5) is no map read and needs no read mode.
@@ -13,6 +15,8 @@
 //! - A completed colour leaves the buffer as it is, so a later buffer read still answers it.
 //! - A pixel answers from the map as stored, waiting entries or not, in read mode too.
 //! - The count of an accepted write is 4 only with a forced transfer; a write to another select reports 0.
+//! - The first position steps with each entry moved, also when the last one is: an empty queue may begin anywhere.
+//! - A reset reads no place of the queue, whatever first position and number it is handed.
 use crate::answer::{colour, count, refused, value, Answer, DONE};
 use std::collections::VecDeque;
 
@@ -32,6 +36,8 @@ pub struct State {
     pub revision: u8,
     pub board: u8,
     pub waiting: u8,
+    /// The place of the oldest waiting entry.
+    pub first: u8,
 }
 
 /// A colour on its way into the map.
@@ -50,25 +56,34 @@ pub fn place(address: u16, colour: [u8; 3]) -> u64 {
     red + (green << 8) + (blue << 16) + (u64::from(address) << 24)
 }
 
+/// The places in which entries wait, the oldest first; the state's first position and number are in range.
+fn waiting_places(s: &State, queue: &[u64]) -> Vec<u64> {
+    let (behind, ahead) = queue.split_at(usize::from(s.first));
+    ahead.iter().chain(behind).copied().take(usize::from(s.waiting)).collect()
+}
+
 fn waiting(s: &State, queue: &[u64]) -> VecDeque<Entry> {
-    queue[..usize::from(s.waiting)].iter().map(|p| entry(*p)).collect()
+    waiting_places(s, queue).into_iter().map(entry).collect()
 }
 
 fn put_back(s: &mut State, queue: &mut [u64], entries: VecDeque<Entry>) {
     s.waiting = entries.len() as u8;
-    queue.fill(0);
-    for (to, e) in queue.iter_mut().zip(entries) {
+    queue.fill(u64::MAX);
+    let (behind, ahead) = queue.split_at_mut(usize::from(s.first));
+    for (to, e) in ahead.iter_mut().chain(behind).zip(entries) {
         *to = place(e.address, e.colour);
     }
 }
 
-/// Moves so many of the oldest entries into the map, or all if fewer wait; answers how many.
-fn transfer(entries: &mut VecDeque<Entry>, map: &mut [u8], most: usize) -> usize {
+/// Moves so many of the oldest entries into the map, or all if fewer wait, and steps the first position past them;
+/// answers how many.
+fn transfer(s: &mut State, entries: &mut VecDeque<Entry>, map: &mut [u8], most: usize) -> usize {
     for moved in 0..most {
         match entries.pop_front() {
             Some(e) => {
-                let first = 3 * usize::from(e.address);
-                map[first..first + 3].copy_from_slice(&e.colour);
+                let red = 3 * usize::from(e.address);
+                map[red..red + 3].copy_from_slice(&e.colour);
+                s.first = if s.first == 63 { 0 } else { s.first + 1 };
             }
             None => return moved,
         }
@@ -78,16 +93,15 @@ fn transfer(entries: &mut VecDeque<Entry>, map: &mut [u8], most: usize) -> usize
 
 /// Refusal 9's part that reads the state and the queue of 64 places.
 fn in_range(s: &State, queue: &[u64]) -> bool {
-    let waiting = usize::from(s.waiting);
     s.address < 8192
         && s.counter <= 2
         && s.command < 32
         && s.read_mode <= 1
         && s.revision <= 7
         && s.board <= 15
-        && waiting <= PLACES
-        && queue[..waiting].iter().all(|p| p >> 24 < 8192)
-        && queue[waiting..].iter().all(|p| *p == 0)
+        && s.waiting <= 64
+        && s.first <= 63
+        && waiting_places(s, queue).iter().all(|p| p >> 24 < 8192)
 }
 
 /// Refusal 1 or 9 of every call that is lent queue and map, 0 if neither; `arguments` are in range.
@@ -140,7 +154,7 @@ pub fn write(s: &mut State, queue: &mut [u64], map: &mut [u8], select: u8, data:
         2 => {
             let mut entries = waiting(s, queue);
             let forced = if entries.len() == PLACES { 4 } else { 0 };
-            let moved = transfer(&mut entries, map, forced);
+            let moved = transfer(s, &mut entries, map, forced);
             match s.counter {
                 0 => s.red = data,
                 1 => s.green = data,
@@ -207,6 +221,7 @@ pub fn look(s: &State, queue: &[u64], map: &[u8], place: u32) -> Answer {
         6 => value(s.revision),
         7 => value(s.board),
         8 => value(s.waiting),
+        12 => value(s.first),
         0x1_0000..=0x1_5fff => value(map[place as usize - 0x1_0000]),
         _ => refused(3),
     }
@@ -218,7 +233,7 @@ pub fn blank(s: &mut State, queue: &mut [u64], map: &mut [u8], slots: u32) -> An
         return refused(refusal);
     }
     let mut entries = waiting(s, queue);
-    let moved = transfer(&mut entries, map, slots as usize);
+    let moved = transfer(s, &mut entries, map, slots as usize);
     put_back(s, queue, entries);
     count(moved)
 }
@@ -251,7 +266,7 @@ pub fn sync(s: &State, queue: &[u64], signals: u8) -> Answer {
 }
 
 /// Lent the queue and no map; of the state it reads what it keeps.
-pub fn reset(s: &mut State, queue: &mut [u64]) -> Answer {
+pub fn reset(s: &mut State, queue: &[u64]) -> Answer {
     if queue.len() != PLACES {
         return refused(1);
     }
@@ -259,7 +274,6 @@ pub fn reset(s: &mut State, queue: &mut [u64]) -> Answer {
         return refused(9);
     }
     *s = State { command: 0x03, revision: s.revision, board: s.board, ..State::default() };
-    queue.fill(0);
     DONE
 }
 
@@ -378,12 +392,13 @@ mod tests {
             c.state.counter = counter;
             assert_eq!(w(&mut c, 2, 0xee), 4);
             let left = if counter == 2 { 61 } else { 60 };
-            assert_eq!(c.state.waiting, left);
+            assert_eq!((c.state.waiting, c.state.first), (left, 4));
             assert_eq!(c.map[..15], [0, 0, 0, 1, 2, 3, 2, 4, 6, 3, 6, 9, 0, 0, 0]);
-            assert_eq!(c.queue[0], place(4, [4, 8, 12]));
-            assert_eq!(c.queue[59], place(63, [63, 126, 189]));
-            let last = if counter == 2 { place(64, [63, 126, 0xee]) } else { 0 };
-            assert_eq!(c.queue[60..], [last, 0, 0, 0]);
+            assert_eq!(c.queue[4], place(4, [4, 8, 12]));
+            assert_eq!(c.queue[63], place(63, [63, 126, 189]));
+            if counter == 2 {
+                assert_eq!(c.queue[0], place(64, [63, 126, 0xee]));
+            }
             assert_eq!(w(&mut c, 2, 0xee), 0);
         }
         // no other select does it
@@ -465,14 +480,16 @@ mod tests {
     fn a_look_at_every_place() {
         let mut c = with_waiting(33);
         let (red, green, command, read_mode, revision, board) = (0x91, 0x7e, 0x1b, 1, 6, 13);
-        c.state = State { address: 0x1234, counter: 2, red, green, command, read_mode, revision, board, waiting: 33 };
-        let numbers = [0x1234, 2, 0x91, 0x7e, 0x1b, 1, 6, 13, 33];
-        assert_eq!([0, 1, 2, 3, 4, 5, 6, 7, 8].map(|place| l(&mut c, place)), numbers);
+        let (address, counter, waiting, first) = (0x1234, 2, 33, 0x1e);
+        c.queue.rotate_right(0x1e);
+        c.state = State { address, counter, red, green, command, read_mode, revision, board, waiting, first };
+        let numbers = [0x1234, 2, 0x91, 0x7e, 0x1b, 1, 6, 13, 33, 0x1e];
+        assert_eq!([0, 1, 2, 3, 4, 5, 6, 7, 8, 12].map(|place| l(&mut c, place)), numbers);
         for n in (0..MAP).step_by(7).chain([MAP - 1]) {
             c.map[n] = (n / 7) as u8;
             assert_eq!(l(&mut c, 0x1_0000 + n as u32), (n / 7 % 256) as u16);
         }
-        for place in [9, 0xff, 0x100, 0x1000, 0xffff, 0x1_6000, 0x2_0000, 0x11_0000, 0x8000_0000, u32::MAX] {
+        for place in [9, 10, 11, 13, 0xff, 0x100, 0x1000, 0xffff, 0x1_6000, 0x2_0000, 0x11_0000, 1 << 31, u32::MAX] {
             no(&mut c, 3, Call::Look { place });
         }
     }
@@ -494,11 +511,45 @@ mod tests {
     fn blanking_moves_the_smaller_number() {
         let mut c = with_waiting(10);
         assert_eq!(c.make(Call::Blank { slots: 4 }), count(4));
-        assert_eq!((c.state.waiting, c.queue[0], c.queue[6]), (6, place(4, [4, 8, 12]), 0));
+        assert_eq!((c.state.waiting, c.state.first, c.queue[4]), (6, 4, place(4, [4, 8, 12])));
         assert_eq!(c.map[9..15], [3, 6, 9, 0, 0, 0]);
         no(&mut c, 9, Call::Blank { slots: 65_536 });
         assert_eq!(c.make(Call::Blank { slots: 65_535 }), count(6));
-        assert_eq!(c.queue, [0; 64]);
+        assert_eq!((c.state.waiting, c.state.first), (0, 10));
+    }
+
+    #[test]
+    fn the_ring_goes_round_its_places() {
+        let mut c = with_waiting(62);
+        assert_eq!(c.make(Call::Blank { slots: 62 }), count(62));
+        for data in 1..=15 {
+            assert_eq!(w(&mut c, 2, data), 0);
+        }
+        assert_eq!((c.state.waiting, c.state.first), (5, 62));
+        for (n, at) in [62, 63, 0, 1, 2].into_iter().enumerate() {
+            let red = 3 * n as u8 + 1;
+            assert_eq!(c.queue[at], place(62 + n as u16, [red, red + 1, red + 2]));
+        }
+        assert_eq!(c.make(Call::Blank { slots: 3 }), count(3));
+        assert_eq!((c.state.waiting, c.state.first), (2, 1));
+        assert_eq!(c.map[186..198], [1, 2, 3, 4, 5, 6, 7, 8, 9, 0, 0, 0]);
+        assert_eq!(c.make(Call::Blank { slots: 3 }), count(2));
+        assert_eq!((c.state.waiting, c.state.first, &c.map[195..201]), (0, 3, &[10, 11, 12, 13, 14, 15][..]));
+    }
+
+    #[test]
+    fn unused_places_hold_anything() {
+        for (first, n) in [(0, 0), (0, 63), (5, 1), (63, 2), (40, 30), (1, 63)] {
+            for at in 0..PLACES {
+                let mut c = with_waiting(n);
+                c.state.first = first;
+                c.queue.rotate_right(first.into());
+                c.queue[at] = 8192 << 24;
+                let waits = (at + PLACES - usize::from(first)) % PLACES < n.into();
+                let refusal = if waits { 9 } else { 0 };
+                assert_eq!(c.make(Call::Sync { signals: 0 }).refusal, refusal, "place {}, {} from {}", at, n, first);
+            }
+        }
     }
 
     #[test]
@@ -527,13 +578,13 @@ mod tests {
         w(&mut c, 3, 0x1c);
         let map = c.map.clone();
         assert_eq!(c.make(Call::Reset), DONE);
-        assert_eq!(c, Chip { map, ..Chip::fresh(3, 5) });
+        assert_eq!((c.state, &c.map), (Chip::fresh(3, 5).state, &map));
         assert_eq!(r(&mut c, 4), 0x18);
         // a state that no other call takes
-        c.state = State { address: 9000, counter: 7, waiting: 99, command: 0xff, read_mode: 2, ..c.state };
+        c.state = State { address: 9000, counter: 7, waiting: 99, first: 64, command: 0xff, read_mode: 2, ..c.state };
         c.queue.fill(u64::MAX);
         assert_eq!(c.make(Call::Reset), DONE);
-        assert_eq!((c.state, &c.queue[..]), (Chip::fresh(3, 5).state, &[0; 64][..]));
+        assert_eq!((c.state, r(&mut c, 4)), (Chip::fresh(3, 5).state, 0x18));
     }
 
     #[test]
@@ -557,8 +608,8 @@ mod tests {
             |c| c.state.command = 0x20,
             |c| c.state.read_mode = 2,
             |c| c.state.waiting = 65,
+            |c| c.state.first = 64,
             |c| c.queue[1] = 8192 << 24,
-            |c| c.queue[2] = 1,
         ];
         for (n, set) in set.into_iter().enumerate() {
             for (k, call) in calls.into_iter().enumerate() {

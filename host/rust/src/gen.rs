@@ -240,14 +240,17 @@ pub fn run_a(r: &mut Random, length: usize) -> Vec<chip_a::Call> {
 }
 
 pub fn fit_b(r: &mut Random) -> chip_b::Chip {
-    let any = r.small(65);
+    let (any, anywhere) = (r.small(65), r.small(64));
     let waiting = r.pick(&[0, 0, 1, 31, 32, 55, 56, 60, 61, 63, 64, 64, 64, any, any]);
-    let mut queue = vec![0; chip_b::PLACES];
+    let first = r.pick(&[0, 1, 4, 60, 62, 63, anywhere, anywhere, anywhere]);
+    // the places that no entry waits in hold anything
+    let mut queue: Vec<u64> = (0..chip_b::PLACES).map(|_| r.word() | r.pick(&[0, u64::MAX])).collect();
     for place in &mut queue[..usize::from(waiting)] {
         // often one of two addresses, so that the order of the moves shows
         let address = if r.one_in(2) { 8_190 + r.below(2) } else { r.below(8_192) };
         *place = chip_b::place(address as u16, [r.byte(), r.byte(), r.byte()]);
     }
+    queue.rotate_right(first.into());
     let state = chip_b::State {
         address: if r.one_in(3) { 8_190 + r.below(2) as u16 } else { r.below(8_192) as u16 },
         counter: r.small(3),
@@ -258,6 +261,7 @@ pub fn fit_b(r: &mut Random) -> chip_b::Chip {
         revision: r.small(8),
         board: r.small(16),
         waiting,
+        first,
     };
     chip_b::Chip { state, queue, map: r.bytes(chip_b::MAP) }
 }
@@ -266,7 +270,7 @@ pub fn any_b(r: &mut Random) -> chip_b::Chip {
     let mut chip = fit_b(r);
     let s = &mut chip.state;
     if r.one_in(3) {
-        match r.below(9) {
+        match r.below(10) {
             0 => s.address = r.pick(&[8_192, 8_193, 0x4000, 0xffff]),
             1 => s.counter = r.beyond(3),
             2 => s.command |= r.pick(&[0x20, 0x40, 0x80, 0xe0]),
@@ -276,8 +280,9 @@ pub fn any_b(r: &mut Random) -> chip_b::Chip {
             6 => s.waiting = r.beyond(65),
             // fewer or more than do wait
             7 => s.waiting = r.small(65),
-            // an address too wide in a waiting place, or something in an unused one
-            _ => chip.queue[r.below(chip_b::PLACES)] += r.pick(&[1 << 37, 1 << 40, 1 << 56, 1 << 63, 1, 0x10000]),
+            8 => s.first = r.beyond(64),
+            // an address too wide, in a place where an entry waits or in another
+            _ => chip.queue[r.below(chip_b::PLACES)] |= r.pick(&[1 << 37, 1 << 40, 1 << 56, 1 << 63]),
         }
     }
     chip.queue.resize(r.length(chip_b::PLACES), 0);
@@ -296,7 +301,7 @@ fn pixel_b(r: &mut Random) -> chip_b::Call {
 }
 
 fn look_b(r: &mut Random) -> chip_b::Call {
-    chip_b::Call::Look { place: r.place(&[(0, 9), (0x1_0000, 24_576)]) }
+    chip_b::Call::Look { place: r.place(&[(0, 9), (12, 1), (0x1_0000, 24_576)]) }
 }
 
 pub fn call_b(r: &mut Random) -> chip_b::Call {
@@ -594,9 +599,10 @@ mod tests {
     fn runs_on_chip_b_fill_its_queue() {
         let mut r = Random::new(3);
         let mut chip = fit_b(&mut r);
-        let (mut forced, mut wraps, mut refusals) = ([0; 3], 0, BTreeSet::new());
+        let (mut forced, mut wraps, mut rings, mut refusals) = ([0; 3], 0, 0, BTreeSet::new());
         let mut make = |chip: &mut chip_b::Chip, call: chip_b::Call| {
             let before = chip.state;
+            rings += usize::from(before.first + before.waiting > 64);
             let answer = chip.make(call);
             refusals.insert(answer.refusal);
             if matches!(call, chip_b::Call::Write { select: 2, .. }) {
@@ -611,7 +617,7 @@ mod tests {
         for _ in 0..1_000 {
             make(&mut fit_b(&mut r), call_b(&mut r));
         }
-        assert!(forced.iter().all(|n| *n > 2) && wraps > 2, "{:?} {}", forced, wraps);
+        assert!(forced.iter().all(|n| *n > 2) && wraps > 2 && rings > 2_000, "{:?} {} {}", forced, wraps, rings);
         assert_eq!(refusals, BTreeSet::from([0, 3, 5, 6, 9]));
     }
 

@@ -63,7 +63,8 @@ fn task_lines(r: &mut Random) -> Vec<String> {
         10 => ("640", (0..length).map(|_| expand_line(r)).collect()),
         _ => {
             let all = "tick sheet reset sync=5 blank=00000003 pixel=0012 pixel=000000012 r0 w0=00 r f chip= chip=64 \
-                       look=00004 look=10000 look= look=0000 look=000000 look=0000F look=1000g look=fffff";
+                       look=00004 look=00009 look=0000c look=10000 look= look=0000 look=000000 look=0000F look=1000g \
+                       look=fffff";
             ("622424", all.split(' ').filter(|_| r.one_in(3)).map(String::from).collect())
         }
     };

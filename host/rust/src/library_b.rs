@@ -25,6 +25,7 @@ struct LibIdent {
 
 #[repr(C)]
 struct LibFifo {
+    first: u8,
     waiting: u8,
 }
 
@@ -57,19 +58,19 @@ extern "C" {
     fn zk_b_write(s: LibState, select: u8, byte: u8, queue: *mut u64, q: usize, map: *mut u8, n: usize) -> LibAnswer;
     fn zk_b_read(s: LibState, select: u8, queue: *const u64, q: usize, map: *const u8, n: usize) -> LibAnswer;
     fn zk_b_look(s: LibState, place: u32, queue: *const u64, q: usize, map: *const u8, n: usize) -> LibLooked;
-    fn zk_b_blank(s: LibState, slots: u32, queue: *mut u64, q: usize, map: *mut u8, n: usize) -> LibAnswer;
+    fn zk_b_blank(s: LibState, slots: u32, queue: *const u64, q: usize, map: *mut u8, n: usize) -> LibAnswer;
     fn zk_b_pixel(s: LibState, mode: u8, word: u32, queue: *const u64, q: usize, map: *const u8, n: usize) -> LibShown;
     fn zk_b_sync(s: LibState, signals: u8, queue: *const u64, q: usize) -> LibAnswer;
-    fn zk_b_reset(s: LibState, queue: *mut u64, q: usize) -> LibAnswer;
+    fn zk_b_reset(s: LibState, queue: *const u64, q: usize) -> LibAnswer;
 }
 
 fn state_in(s: State) -> LibState {
-    let State { address, counter, red, green, command, read_mode, revision, board, waiting } = s;
+    let State { address, counter, red, green, command, read_mode, revision, board, waiting, first } = s;
     LibState {
         port: LibPort { address, counter, red, green },
         control: LibControl { command, readmode: read_mode },
         ident: LibIdent { revision, board },
-        fifo: LibFifo { waiting },
+        fifo: LibFifo { first, waiting },
     }
 }
 
@@ -86,6 +87,7 @@ fn state_out(s: LibState) -> State {
         revision: ident.revision,
         board: ident.board,
         waiting: fifo.waiting,
+        first: fifo.first,
     }
 }
 
