@@ -52,6 +52,16 @@ ringed-drop (suc k) f (suc n) q h =
     ringed-drop k (f + 1) n q (omega arith)
     ∙ (rw same (ringed-turn ((f + 1 + k) % 64) ((f + suc k) % 64) (suc n - suc k) q (omega arith)))
 
+-- ---- so many, and so many more
+pub ringed-append : (f a b : ℕ) (q : List ℕ) → ringed f (a + b) q ≡ ringed f a q ++ ringed (f + a) b q
+unfolding ringed
+ringed-append f zero b q =
+    let none : 0 + b ≡ b = omega arith in rw none (ringed-turn f (f + 0) b q (omega arith))
+ringed-append f (suc a) b q =
+    let more : suc a + b ≡ suc (a + b) = omega arith in
+    let same : f + 1 + a ≡ f + suc a = omega arith in
+    rw more (both-same refl (rw same at (ringed-append (f + 1) a b q)))
+
 -- ---- one put last
 pub ringed-last : (f n : ℕ) (q : List ℕ) → ringed f (n + 1) q ≡ ringed f n q ++ (getD q ((f + n) % 64) 0 ∷ [])
 unfolding ringed

@@ -19,7 +19,26 @@ fn store(map: &mut [u8], place: u64)
     map[at + 2] = (place / 65536 % 256) as u8;
 }
 
-// Each slot moves the oldest entry that is left, if one is, into the map: how many they moved.
+// Each slot moves the oldest entry that is left of a row of places, if one is, into the map: how many they moved.
+fn store_row(from: usize, waiting: usize, slots: usize, queue: &[u64], map: &mut [u8]) -> usize
+    requires { ⌜ (length (now map) ≡ 24576) × (length (now queue) ≡ 64) × (from + waiting ≤ 64) ⌝ }
+    requires { ⌜ ((i : ℕ) → i < waiting → getD (now queue) ((from + i) % 64) 0 < 2 ^ 37) ⌝ }
+    ensures { λ r. ⌜ r ≡ min slots waiting ⌝ }
+    ensures { λ r. ⌜ now (map .exit)
+        ≡ allStored (entriesIn (ringed from r (now (queue .entry)))) (now (map .entry)) ⌝ }
+{
+    let mut moved: usize = 0;
+    while moved < slots {
+        if waiting <= moved {
+            break;
+        }
+        store(map, queue[from + moved]);
+        moved += 1;
+    }
+    moved
+}
+
+// The same of all that wait: those up to the places' end, and with the slots that are left those from place 0 on.
 pub fn store_oldest(
     first: usize,
     waiting: usize,
@@ -33,13 +52,10 @@ pub fn store_oldest(
     ensures { λ r. ⌜ now (map .exit)
         ≡ allStored (entriesIn (ringed first r (now (queue .entry)))) (now (map .entry)) ⌝ }
 {
-    let mut moved: usize = 0;
-    while moved < slots {
-        if waiting <= moved {
-            break;
-        }
-        store(map, queue[(first + moved) % 64]);
-        moved += 1;
+    let back = 64 - first;
+    if waiting <= back {
+        return store_row(first, waiting, slots, queue, map);
     }
-    moved
+    let moved = store_row(first, back, slots, queue, map);
+    moved + store_row(0, waiting - back, slots - moved, queue, map)
 }

@@ -1,51 +1,43 @@
--- The invariant: `moved` is past neither the slots nor what waits, and the map is the lent one with `moved` places from
--- the first position on stored. A turn is `stored-next`. Either way out of the loop makes `moved` the least of the two.
-use Prim.Native.Nat.{_-_, _≤_}
-use mathlib.Core.Path.{_≡_, ap, _∙_}
+-- In one row, or in two: the part up to the places' end, and with the slots that are left the part from place 0 on
+-- (`row-joined`). The second part's entry i is entry back + i of all.
+use Prim.Native.Nat.{_+_, _-_}
+use mathlib.Core.Path.{_∙_}
 use native.Mathlib.Omega.{arith}
-use lib.ListN.{length}
-use Rattle.ms622424.specs.Ms622424.{allStored}
-use Rattle.ms622424.proofs.Moves.{all-stored-length}
-use Rattle.ms622424_places.specs.Places.{entriesIn, ringed}
-use Rattle.ms622424_store.proofs.Stores.{low-at, stored-next}
+use Rattle.ms622424_store.proofs.Stores.{low-at, row-joined}
 use borrow.Author.Needs.{needs}
 use Rattle.ms622424_store.proofs.store_oldest.Statement.{statement}
 use Rattle.ms622424_store.proofs.store_oldest.Tie as tie
 
-abbrev Inv-loop : tie.InvT-loop
-Inv-loop first waiting slots queue map₀ moved₀ map moved =
-    (moved ≤ waiting) × (moved ≤ slots) × (map ≡ allStored (entriesIn (ringed first moved queue)) map₀)
+store-row-requires : tie.Need-store-row-requires
+store-row-requires c κs =
+    let start = c .before .before .before .before in
+    ((start .pre .0 .0, start .pre .0 .1, omega arith), start .pre .1)
 
-abbrev μ-loop : tie.MeasureT-loop
-μ-loop first waiting slots queue map₀ moved₀ map moved = slots - moved
+store-row-requires-2 : tie.Need-store-row-requires-2
+store-row-requires-2 c κs =
+    let start = c .before .before .before .before in
+    ((start .pre .0 .0, start .pre .0 .1, omega arith), λ i l. start .pre .1 i (omega arith))
 
--- stores keep the map's length, which each of them asks, and the return
-kept : (c : tie.At-loop Inv-loop μ-loop) → length (c .loop .map) ≡ length (c .before .before .before .args .map .now)
-kept c = ap length (c .loop .inv .2) ∙ all-stored-length _ _
-
-store-requires : tie.Need-store-requires Inv-loop μ-loop
-store-requires c κs =
-    let start = c .before .before .before .before .before .before .before in
-    let at = c .before .before .before .before in (
-      kept at ∙ start .pre .0 .0,
-      low-at (start .args .queue .now) (omega arith)
-          (start .pre .1 (at .loop .moved) (omega arith)),
+store-row-requires-3 : tie.Need-store-row-requires-3
+store-row-requires-3 c κs =
+    let start = c .before .before .before .before .before .before .before .before in
+    let a = start .args in (
+      (c .before .before .before .store-row2 .kept .1 .1 .1 .1 .0 ∙ start .pre .0 .0, start .pre .0 .1, omega arith),
+      λ i l. low-at (a .queue .now) (omega arith) (start .pre .1 (64 - a .first + i) (omega arith)),
     )
 
-loop-again : tie.Need-loop-again Inv-loop μ-loop
-loop-again c =
-    let at = c .before .before .before .before .before .before .before in
-    let a = at .before .before .before .args in (
+returns-2 : tie.Need-returns-2
+returns-2 c =
+    let one = c .before .before .before .before .before .before in
+    let two = c .before .before in
+    let a = one .before .before .before .before .before .args in (
       omega arith,
-      omega arith,
-      stored-next (a .first) (a .queue .now) _ (at .loop .moved) (omega arith) (c .before .before .store .ensures)
-          (at .loop .inv .2),
+      row-joined (a .first) _ _ (a .queue .now) (a .map .now) (one .store-row2 .ensures .1) (two .store-row3 .ensures .1)
+          (λ z. omega arith),
     )
 
 pub store-oldest-spec : {M : Type 1} → statement M
-unfolding allStored ringed
 store-oldest-spec =
     tie.close
-    (tie.spec Inv-loop μ-loop (λ c. search needs) (λ c. search needs) (λ c. search needs) (λ c. search needs)
-    store-requires (λ c. search needs) (λ c. search needs) loop-again (λ c. kept (c .before)) (λ c. search needs)
-    (λ c. kept (c .before .before)) (λ c. search needs))
+    (tie.spec (λ c. search needs) store-row-requires (λ c. search needs) (λ c. search needs) store-row-requires-2
+    (λ c. search needs) (λ c. search needs) store-row-requires-3 (λ c. search needs) (λ c. search needs) returns-2)
