@@ -134,8 +134,12 @@ same-from-reset c o i m l a =
 
 pub caller-as-old : CallerAsOld
 caller-as-old h last o calls s made =
+    let now : SameAs (view last) (after oldCalled calls o) =
     subst (λ (c : Chip). SameAs c (after oldCalled calls o)) (sym (made-run made))
-    (as-old .1 .leaves calls (view h) o s)
+    (as-old .1 .leaves calls (view h) o s) in (
+      now,
+      λ k next e d. ap telling (d .chip) ∙ alike .tells k (view last) (after oldCalled calls o) e now,
+    )
 
 -- A CHIP THAT IS AS THE OLD QUEUE is the MS622424, but for where the first colour is
 pub as-old-determines : (other : Call → Chip → Outcome Chip) → AsOld other → (k : Call) (c : Chip) (o : Old)

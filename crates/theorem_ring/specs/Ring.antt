@@ -8,9 +8,11 @@ use mathlib.Core.List.{List}
 use lib.Dec.{eqb}
 use lib.ListN.{length}
 use Rattle.vocabulary.specs.Outcome.{Outcome}
+use Rattle.vocabulary.specs.Reply.{telling}
 use Rattle.vocabulary.specs.Run.{after, Alike, RunsAlike}
 use Rattle.ms622424.specs.Ms622424.{Chip, withFirst, Call, writes, reads, blanks, pixels, signals, resets, looks}
-use Rattle.ms622424_places.specs.Places.{Handed, view}
+use Rattle.ms622424.specs.Ms622424.{called}
+use Rattle.ms622424_places.specs.Places.{Handed, view, Does}
 use Rattle.theorem_queue_unseen.specs.Made.{Made}
 use Rattle.theorem_ring.specs.OldQueue.{Queue, coloursOf, unusedZero, Old, oldCalled}
 
@@ -53,19 +55,22 @@ pub record SameAs (c : Chip) (o : Old) : Type 0 where
 
 -- chips that are so give every call the same reply, and leave chips that are so again; hence over any run of calls
 abbrev pub AsOld : (Call → Chip → Outcome Chip) → Type 0
-AsOld called = Alike called oldCalled isFirstLook SameAs × RunsAlike called oldCalled isFirstLook SameAs
+AsOld step = Alike step oldCalled isFirstLook SameAs × RunsAlike step oldCalled isFirstLook SameAs
 
 abbrev pub AsTurned : (Call → Chip → Outcome Chip) → Type 0
-AsTurned called = Alike called called isFirstLook Turned × RunsAlike called called isFirstLook Turned
+AsTurned step = Alike step step isFirstLook Turned × RunsAlike step step isFirstLook Turned
 
 -- they are so after a reset that was accepted, whatever stood in the places
 abbrev pub SameFromReset : (Call → Chip → Outcome Chip) → Type 0
-SameFromReset called =
+SameFromReset step =
     (c : Chip) (o : Old) → c .ident ≡ o .ident → c .map ≡ o .map → c .lent .places ≡ length (o .queue .places)
-    → called resets c .refusal ≡ 0 → SameAs (called resets c .left) (oldCalled resets o .left)
+    → step resets c .refusal ≡ 0 → SameAs (step resets c .left) (oldCalled resets o .left)
 
--- and of calls as a caller makes them, on the state and the tables that they hand on
+-- and of calls as a caller makes them, on the state and the tables that they hand on: after any of them so again, and
+-- the next is told the same
 abbrev pub CallerAsOld : Type 0
 CallerAsOld =
     (h last : Handed) (o : Old) (calls : List Call) → SameAs (view h) o → Made h calls last
     → SameAs (view last) (after oldCalled calls o)
+    × ((k : Call) (next : Outcome Handed) → isFirstLook k ≡ false → Does last next (called k)
+    → telling next ≡ telling (oldCalled k (after oldCalled calls o)))
