@@ -120,16 +120,17 @@ static zk_b_state with_ring(struct lent *lent, unsigned first, unsigned waiting)
 }
 static zk_b_state with_waiting(struct lent *lent, unsigned waiting) { return with_ring(lent, 0, waiting); }
 
-static void write_b(struct lent *lent, struct seen *seen, unsigned first, unsigned waiting) {
+static void write_b(struct lent *lent, struct seen *seen, unsigned first, unsigned waiting, unsigned calls) {
     zk_b_answer a = {0, 0, 0, with_ring(lent, first, waiting)};
-    for (unsigned i = 0; i < 192; i++) {
+    for (unsigned i = 0; i < calls; i++) {
         a = CALL(b_write)(a.state, 2, (uint8_t)i, QUEUE, MAP);
         see_b(lent, seen, a);
     }
 }
-static void b_write_filling(struct lent *lent, struct seen *seen) { write_b(lent, seen, 0, 0); }
-static void b_write_full(struct lent *lent, struct seen *seen) { write_b(lent, seen, 0, 64); }
-static void b_write_round(struct lent *lent, struct seen *seen) { write_b(lent, seen, 32, 0); }
+static void b_write_filling(struct lent *lent, struct seen *seen) { write_b(lent, seen, 0, 0, 192); }
+static void b_write_full(struct lent *lent, struct seen *seen) { write_b(lent, seen, 0, 64, 192); }
+static void b_write_forced(struct lent *lent, struct seen *seen) { write_b(lent, seen, 0, 64, 1); }
+static void b_write_round(struct lent *lent, struct seen *seen) { write_b(lent, seen, 32, 0, 192); }
 
 static void b_write_address(struct lent *lent, struct seen *seen) {
     zk_b_answer a = {0, 0, 0, with_waiting(lent, 0)};
@@ -151,6 +152,9 @@ static void b_blank_all(struct lent *lent, struct seen *seen) {
 }
 static void b_blank_one(struct lent *lent, struct seen *seen) {
     blank_b(lent, seen, with_waiting(lent, 64), 1, 64);
+}
+static void b_blank_full(struct lent *lent, struct seen *seen) {
+    blank_b(lent, seen, with_waiting(lent, 64), 1, 1);
 }
 static void b_blank_round(struct lent *lent, struct seen *seen) {
     blank_b(lent, seen, with_ring(lent, 32, 64), 1, 64);
@@ -350,10 +354,12 @@ const struct work CALL(works)[WORKS] = {
     {"A pixel, overlay blinked off", a_pixel_blinked, 1, A_TESTS ", 2 of the pixel"},
     {"B write colours, queue filling", b_write_filling, 1, B_TESTS},
     {"B write colours, queue full", b_write_full, 1, B_TESTS},
+    {"B write, 64 waiting", b_write_forced, 1, B_TESTS},
     {"B write colours, round the end", b_write_round, 1, B_TESTS},
     {"B write address, queue empty", b_write_address, 1, B_TESTS},
     {"B blank, 64 slots, 64 waiting", b_blank_all, 1, B_TESTS ", the slots"},
     {"B blank, 1 slot, 64 to 1 waiting", b_blank_one, 1, B_TESTS ", the slots"},
+    {"B blank, 1 slot, 64 waiting", b_blank_full, 1, B_TESTS ", the slots"},
     {"B blank, 1 slot, round the end", b_blank_round, 1, B_TESTS ", the slots"},
     {"B blank, none waiting", b_blank_none, 1, B_TESTS ", the slots"},
     {"B read, map", b_read_map, 1, B_TESTS},

@@ -42,7 +42,7 @@ struct work {
     const char *validates; /* what each call tests */
 };
 
-enum { WORKS = 50 };
+enum { WORKS = 52 };
 extern const struct work zk_works[WORKS], plain_works[WORKS], bare_works[WORKS];
 
 /* One accepted call, counted by itself: on chip a, b or c a read of a select or port, or a look at a place. It is run

@@ -11,7 +11,7 @@ use Rattle.ms622424_look.proofs.look_at.Tie as tie
 asks : tie.Need-map-look-requires
 asks c κs =
     let ((((((((((_, a), b), d), e), f), g), h), i), j), k) = c .match .rest in
-    ((over 8 _ (over-seven _ a b d e f g h i) j, k), c .before .before .before .pre .size)
+    ((over 8 _ (over-seven _ a b d e f g h i) j, λ twelve. k twelve), c .before .before .before .pre .size)
 
 -- how many wait
 returns-9 : tie.Need-returns-9

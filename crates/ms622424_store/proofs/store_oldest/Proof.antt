@@ -15,8 +15,10 @@ store-row-requires c κs =
 
 store-row-requires-2 : tie.Need-store-row-requires-2
 store-row-requires-2 c κs =
-    let start = c .before .before .before .before in
-    ((start .pre .0 .0, start .pre .0 .1, omega arith), λ i l. start .pre .1 i (omega arith))
+    let start = c .before .before .before .before in (
+      (start .pre .0 .0, start .pre .0 .1, omega arith),
+      λ i l. low-at (start .args .queue .now) (omega arith) (start .pre .1 i (omega arith)),
+    )
 
 store-row-requires-3 : tie.Need-store-row-requires-3
 store-row-requires-3 c κs =
