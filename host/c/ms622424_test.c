@@ -1,22 +1,22 @@
 /* Chip B, the MS622424: each call of the library beside the same call of plain C (host/plain), which is written from
- * document 01 and requests P5, P6 and P7: every field of every answer, the waiting entries and every byte of the map,
- * on good and bad states, lengths and arguments. The first position is anywhere, any colour is held, and places in
- * which no entry waits hold anything; a refusal, and every call but a write, leaves all places as they were.
+ * document 01 and requests P5 and P7: every field of every answer, the waiting entries and every byte of the map, on
+ * good and bad states, lengths and arguments. The first position is anywhere, and places in which no entry waits hold
+ * anything; a refusal, and every call but a write, leaves all places as they were.
  *
  * By hand, apart from that model, from data sheet 004 and document 01: accesses in a row, the status, the forced
- * transfer, pixels, timing signals, the order of the refusals; from P6 the held colour; from P7 the ring; from P5 every
- * place of a look, with entries waiting and in read mode. */
+ * transfer, pixels, timing signals, the order of the refusals; from P7 the ring; from P5 every place of a look, with
+ * entries waiting and in read mode. */
 #include "check.h"
 
-/* the tables that are lent, and plain C's, with room for one element too many; stood: the lent places before a call */
-static uint64_t *queue, plain_queue[ZK_B_PLACES + 1], stood[ZK_B_PLACES + 1];
+/* the tables that are lent, and plain C's, with room for one element too many; held: the lent places before a call */
+static uint64_t *queue, plain_queue[ZK_B_PLACES + 1], held[ZK_B_PLACES + 1];
 static uint8_t *map, plain_map[ZK_B_MAP + 1];
 static size_t places, bytes;
 #define LENT queue, places, map, bytes
 #define PLAIN plain_queue, places, plain_map, bytes
 
-static const char *const names[] = {"address", "counter",  "red",        "green",     "command", "readmode", "revision",
-                                    "board",   "waiting",  "held-red",   "held-green", "held-blue", "first", NULL};
+static const char *const names[] = {"address",  "counter", "red",     "green", "command", "readmode",
+                                    "revision", "board",   "waiting", "first", NULL};
 static struct call writes = {"write, lengths %lu %lu, to select %lx: %lx", names, "01359", {0}},
                    reads = {"read, lengths %lu %lu, of select %lx", names, "013569", {0}},
                    blanks = {"blank, lengths %lu %lu: %lx slots", names, "019", {0}},
@@ -32,7 +32,7 @@ static void lend(size_t p, size_t b) {
     queue = check_guarded(p * sizeof *queue);
     map = check_guarded(b);
     memcpy(queue, plain_queue, p * sizeof *queue);
-    memcpy(stood, queue, p * sizeof *queue);
+    memcpy(held, queue, p * sizeof *queue);
     memcpy(map, plain_map, b);
 }
 
@@ -41,12 +41,12 @@ static void lend(size_t p, size_t b) {
 static void compare(struct call *call, zk_b_state s, unsigned long x, unsigned long y, struct flat got,
                     struct flat want) {
     const unsigned long numbers[5] = {places, bytes, x, y, 0};
-    zk_b_answer given = {.state = s};
+    zk_b_answer given = {0, 0, 0, s};
     check_same(call, numbers, flat_b(given), got, want);
     check_lent(call, "map", map, plain_map, bytes);
     if (call != &writes || got.told[0] != 0)
-        CHECK(memcmp(queue, stood, places * sizeof *queue) == 0, "a %.*s changes a place", CALL_NAME(call));
-    memcpy(stood, queue, places * sizeof *queue);
+        CHECK(memcmp(queue, held, places * sizeof *queue) == 0, "a %.*s changes a place", CALL_NAME(call));
+    memcpy(held, queue, places * sizeof *queue);
 }
 
 /* the answer of a call that may change the state, and the waiting entries after it */
@@ -81,28 +81,16 @@ static zk_b_state try_reset(zk_b_state s) {
 static void try_look(zk_b_state s, uint32_t place) {
     compare(&looks, s, place, 0, flat_look(zk_b_look(s, place, LENT)), flat_look(plain_b_look(s, place, PLAIN)));
 }
-static zk_b_state try_pixel(zk_b_state s, int mode, uint32_t word) {
-    zk_b_shown got = zk_b_pixel(s, (uint8_t)mode, word, LENT);
-    compare(&pixels, s, (unsigned)mode, word, flat_shown_b(got),
+static void try_pixel(zk_b_state s, int mode, uint32_t word) {
+    compare(&pixels, s, (unsigned)mode, word, flat_shown_b(zk_b_pixel(s, (uint8_t)mode, word, LENT)),
             flat_shown_b(plain_b_pixel(s, (uint8_t)mode, word, PLAIN)));
-    return got.state;
-}
-
-/* ---- colours as numbers, red on top, as a log has them */
-
-/* held by a state, and told by the call that was compared last */
-static uint32_t held_in(zk_b_state s) { return (uint32_t)s.held.red << 16 | (uint32_t)s.held.green << 8 | s.held.blue; }
-static uint32_t told_colour(void) { return (uint32_t)last.told[3] << 16 | (uint32_t)last.told[4] << 8 | last.told[5]; }
-
-static void put_colour(unsigned entry, uint32_t colour) {
-    for (unsigned k = 0; k < 3; k++) map[3 * entry + k] = plain_map[3 * entry + k] = (uint8_t)(colour >> (16 - 8 * k));
 }
 
 /* ---- inputs */
 
 static void put_place(int i, uint64_t e) {
     plain_queue[i] = e;
-    if ((size_t)i < places) queue[i] = stood[i] = e;
+    if ((size_t)i < places) queue[i] = held[i] = e;
 }
 
 /* The place of a waiting entry, the oldest of which is number 0, and what is put there. */
@@ -123,17 +111,9 @@ static int some_first(void) {
     return below(2) ? edges[below(8)] : (int)below(64);
 }
 
-/* any colour, now and then black */
-static zk_colour some_colour(void) {
-    uint32_t word = below(8) ? (uint32_t)random_bits() : 0;
-    zk_colour colour = {(uint8_t)word, (uint8_t)(word >> 8), (uint8_t)(word >> 16)};
-    return colour;
-}
-
-/* a random state in its ranges, with so many waiting; the bytes between its parts hold anything */
+/* a random state in its ranges, with so many waiting */
 static zk_b_state good_state(int waiting) {
     zk_b_state s;
-    memset(&s, (int)below(256), sizeof s);
     s.port.address = (uint16_t)(below(4) ? below(8192) : 8191);
     s.port.counter = (uint8_t)below(3);
     s.port.red = (uint8_t)random_bits();
@@ -142,7 +122,6 @@ static zk_b_state good_state(int waiting) {
     s.control.readmode = (uint8_t)below(2);
     s.ident.revision = (uint8_t)below(8);
     s.ident.board = (uint8_t)below(16);
-    s.held = some_colour();
     return queued(s, some_first(), waiting);
 }
 
@@ -200,28 +179,15 @@ static void try_all(zk_b_state s) {
 
 /* ---- every call beside plain C */
 
-/* The state in parts: where each stands, with a byte between port and control, and one behind the held colour, that mean
- * nothing. So has an answer between its held colour and its state. */
+/* the state in parts: where each stands, with a byte between port and control that means nothing */
 static void the_layout(void) {
-    struct behind_a_byte {
-        uint8_t byte;
-        zk_b_state state;
-    };
-    CHECK(offsetof(zk_b_state, control) == 6 && offsetof(zk_b_state, ident) == 8 && offsetof(zk_b_state, fifo) == 10
-              && offsetof(zk_b_state, held) == 12,
-          "the parts at %zu, %zu, %zu, %zu", offsetof(zk_b_state, control), offsetof(zk_b_state, ident),
-          offsetof(zk_b_state, fifo), offsetof(zk_b_state, held));
+    CHECK(offsetof(zk_b_state, control) == 6 && offsetof(zk_b_state, ident) == 8 && offsetof(zk_b_state, fifo) == 10,
+          "the parts at %zu, %zu, %zu", offsetof(zk_b_state, control), offsetof(zk_b_state, ident),
+          offsetof(zk_b_state, fifo));
     CHECK(offsetof(zk_b_fifo, first) == 0 && offsetof(zk_b_fifo, waiting) == 1, "waiting at %zu of fifo",
           offsetof(zk_b_fifo, waiting));
-    CHECK(sizeof(zk_colour) == 3 && offsetof(zk_colour, green) == 1 && offsetof(zk_colour, blue) == 2,
-          "a colour of %zu bytes", sizeof(zk_colour));
-    CHECK(sizeof(zk_b_state) == 16 && offsetof(struct behind_a_byte, state) == 2, "a state of %zu bytes",
-          sizeof(zk_b_state));
-    CHECK(sizeof(zk_b_answer) == 24 && offsetof(zk_b_answer, count) == 2 && offsetof(zk_b_answer, held) == 4
-              && offsetof(zk_b_answer, state) == 8,
-          "an answer of %zu bytes, its state at %zu", sizeof(zk_b_answer), offsetof(zk_b_answer, state));
-    CHECK(sizeof(zk_b_shown) == 20 && offsetof(zk_b_shown, red) == 1 && offsetof(zk_b_shown, state) == 4,
-          "a pixel's answer of %zu bytes, its state at %zu", sizeof(zk_b_shown), offsetof(zk_b_shown, state));
+    CHECK(sizeof(zk_b_state) == 12 && sizeof(zk_b_answer) == 16 && offsetof(zk_b_answer, state) == 4,
+          "a state of %zu bytes, an answer of %zu", sizeof(zk_b_state), sizeof(zk_b_answer));
     CHECK(sizeof(zk_looked) == 4 && offsetof(zk_looked, value) == 2, "a look's answer of %zu bytes, its value at %zu",
           sizeof(zk_looked), offsetof(zk_looked, value));
 }
@@ -275,11 +241,11 @@ static void wrong_lengths(void) {
 
 static void every_pixel_entry(void) {
     zk_b_state s = good_state(3);
-    for (uint32_t n = 0; n < 8192; n++) s = try_pixel(s, 0, n | below(2048) << 13);
+    for (uint32_t n = 0; n < 8192; n++) try_pixel(s, 0, n | below(2048) << 13);
     for (int mode = 1; mode < 4; mode++)
-        for (uint32_t n = 0; n < 256; n++) s = try_pixel(s, mode, n | below(256) << 8 | (255 - n) << 16);
-    for (int mode = 0; mode < 256; mode++) s = try_pixel(s, mode, (uint32_t)random_bits() & 0xffffff);
-    for (int bit = 0; bit < 32; bit++) s = try_pixel(s, 0, (uint32_t)1 << bit);
+        for (uint32_t n = 0; n < 256; n++) try_pixel(s, mode, n | below(256) << 8 | (255 - n) << 16);
+    for (int mode = 0; mode < 256; mode++) try_pixel(s, mode, (uint32_t)random_bits() & 0xffffff);
+    for (int bit = 0; bit < 32; bit++) try_pixel(s, 0, (uint32_t)1 << bit);
 }
 
 static void every_signal(void) {
@@ -291,31 +257,25 @@ static void every_signal(void) {
         }
 }
 
-/* A long run on one chip, each call on the state that the last one left, with fewer slots than colours and then with
- * more: the ring goes round its places, full and not. Forced writes tell many colours, some of a pixel whose entry has
- * changed since. */
+/* a long run on one chip, each call on the state that the last one left, with fewer slots than colours and then with
+ * more: the ring goes round its places, full and not */
 static void a_run(void) {
     zk_b_state s = try_reset(good_state(0));
-    int wrapped = 0, full_and_wrapped = 0, forced = 0, told = 0;
+    int wrapped = 0, full_and_wrapped = 0;
     for (int i = 0; i < 20000; i++) {
         uint32_t n = below(100);
         wrapped += s.fifo.first + s.fifo.waiting > 64;
         full_and_wrapped += s.fifo.first > 0 && s.fifo.waiting == 64;
-        if (n < 70) {
-            s = try_write(s, 2, (int)below(256));
-            forced += last.told[2] == 4;
-            told += last.told[2] == 4 && told_colour() != 0;
-        }
+        if (n < 70) s = try_write(s, 2, (int)below(256));
         else if (n < 74) s = try_write(s, (int)below(8), (int)below(256));
         else if (n < 84) s = try_read(s, (int)below(8));
         else if (n < 86) s = try_read(s, 7);
-        else if (n < 88) s = try_pixel(s, (int)below(4), (uint32_t)random_bits() & 0xffffff);
+        else if (n < 88) try_pixel(s, (int)below(4), (uint32_t)random_bits() & 0xffffff);
         else if (n < 90) try_look(s, any_place());
         else if (n < 99) s = try_blank(s, below(i / 2000 % 2 ? 8 : 4));
         else if (below(20) == 0) s = try_reset(s);
     }
     CHECK(wrapped > 1000 && full_and_wrapped > 20, "%d wrapped, %d of them full", wrapped, full_and_wrapped);
-    CHECK(told > 20, "%d writes forced a transfer, %d told a colour", forced, told);
 }
 
 /* ---- by hand: accesses */
@@ -365,8 +325,7 @@ static void accesses_by_hand(void) {
     chip = good_state(some_waiting()), chip.ident.revision = 6, chip.ident.board = 13;
     memcpy(map, first, 3), memcpy(plain_map, first, 3), memcpy(before, map, ZK_B_MAP);
     chip = try_reset(chip);
-    CHECK(chip.control.command == 3 && chip.control.readmode == 0 && chip.fifo.first == 0 && chip.fifo.waiting == 0
-              && held_in(chip) == 0,
+    CHECK(chip.control.command == 3 && chip.control.readmode == 0 && chip.fifo.first == 0 && chip.fifo.waiting == 0,
           "what a reset leaves");
     check_steps(steps, COUNT(steps), make_step);
     memcpy(before + 24573, stored, 3);
@@ -430,104 +389,6 @@ static void the_forced_transfer(void) {
                               && map[302 + 3 * i] == (i < moved ? 2 : 0xee),
                           "map entry %d", 100 + i);
             }
-}
-
-/* ---- by hand: the held colour */
-
-/* what the call that was compared last told, and what is held after it */
-static void check_held(const char *what, unsigned count, uint32_t told, zk_b_state s, uint32_t held) {
-    CHECK(last.told[0] == 0 && last.told[2] == count, "%s: refusal %u, %u moved", what, last.told[0], last.told[2]);
-    CHECK(told_colour() == told, "%s tells %06x, not %06x", what, (unsigned)told_colour(), (unsigned)told);
-    CHECK(held_in(s) == held, "after %s %06x is held, not %06x", what, (unsigned)held_in(s), (unsigned)held);
-}
-
-/* an accepted pixel of each mode sets it to the very colour that it shows, black too; a refused one leaves it */
-static void pixels_set_it(void) {
-    zk_b_state s = try_reset(good_state(some_waiting()));
-    check_held("a reset", 0, 0, s, 0);
-    for (unsigned i = 0; i < 3; i++) put_colour(7424 + 256 * i + 1 + i, 0x010203 + 0x101010 * i);
-    put_colour(5, 0x12ab9f), put_colour(6, 0x34cd70), put_colour(7, 0);
-    s = try_pixel(s, 0, 5), check_held("a pixel", 0, 0x12ab9f, s, 0x12ab9f);
-    s = try_pixel(s, 4, 6), check_refusal(&pixels, 4, -1, 9);
-    CHECK(held_in(s) == 0x12ab9f && told_colour() == 0, "%06x is held after a mode of 4", (unsigned)held_in(s));
-    s = try_pixel(s, 0, 0x1000006), check_refusal(&pixels, 0, -1, 9);
-    CHECK(held_in(s) == 0x12ab9f && told_colour() == 0, "%06x is held after a word of 25 bits", (unsigned)held_in(s));
-    s = try_pixel(s, 1, 0x010101), check_held("mode 1", 0, 0x010203, s, 0x010203);
-    s = try_pixel(s, 2, 0x020202), check_held("mode 2", 0, 0x111213, s, 0x111213);
-    s = try_pixel(s, 3, 0x030303), check_held("mode 3", 0, 0x212223, s, 0x212223);
-    s = try_pixel(s, 0, 7), check_held("a black pixel", 0, 0, s, 0);
-}
-
-/* the map's entry is written anew by blanking: the colour is held as it was shown, and a look tells it */
-static void the_map_may_change(void) {
-    static const uint8_t newer[3] = {0xa1, 0xb2, 0xc3};
-    zk_b_state s = try_reset(good_state(0));
-    put_colour(0x305, 0x102030);
-    s = try_pixel(s, 0, 0x305);
-    s = try_write(s, 0, 0x05), s = try_write(s, 1, 0x03);
-    for (int i = 0; i < 3; i++) s = try_write(s, 2, newer[i]), check_held("a write", 0, 0, s, 0x102030);
-    s = try_blank(s, 1), check_held("blanking", 1, 0, s, 0x102030);
-    CHECK(memcmp(map + 3 * 0x305, newer, 3) == 0, "the map's entry");
-    for (uint32_t i = 0; i < 3; i++) {
-        try_look(s, ZK_B_LOOK_HELD_RED + i);
-        CHECK(last.told[0] == 0 && last.told[1] == 0x10 * (i + 1), "place %u: %x", 9 + (unsigned)i, last.told[1]);
-    }
-    s = try_pixel(s, 0, 0x305), check_held("the pixel once more", 0, 0xa1b2c3, s, 0xa1b2c3);
-}
-
-/* A palette write with 64 waiting, be it red, green or blue, tells the colour as it was shown, though the transfer
- * writes the very entry, each of the four in turn. It is held on: the next write tells none, the next forced one the
- * same. */
-static void a_forced_write_tells_it(void) {
-    for (int n = 0; n < 12; n++) {
-        uint32_t shown = 0x90a0f0 + (uint32_t)n;
-        unsigned entry = 100 + (unsigned)n % 4;
-        zk_b_state s = good_state(64);
-        s.port.counter = (uint8_t)(n / 4), s.control.readmode = 0;
-        for (int i = 0; i < 64; i++) put_entry(s, i, numbered(i));
-        put_colour(entry, shown);
-        s = try_pixel(s, 0, entry);
-        s = try_write(s, 2, 0x55), check_held("a forced write", 4, shown, s, shown);
-        CHECK(map[3 * entry] == n % 4 && map[3 * entry + 1] == 1 && map[3 * entry + 2] == 2, "entry %u is moved", entry);
-        s = try_write(s, 2, 0x66), check_held("the write behind it", 0, 0, s, shown);
-        s = try_blank(s, 4), check_held("four slots", 4, 0, s, shown);
-        s = try_write(queued(s, some_first(), 64), 2, 0x77), check_held("a second forced write", 4, shown, s, shown);
-        put_colour(entry, 0);
-        s = try_pixel(queued(s, some_first(), 64), 0, entry);
-        s = try_write(s, 2, 0x88), check_held("a forced write after black", 4, 0, s, 0);
-    }
-}
-
-/* with a colour held and 64 waiting no other call tells it, and none but an accepted reset changes it */
-static void no_other_call_tells_it(void) {
-    static const struct {
-        char access;
-        uint32_t number;
-        unsigned refusal, count;
-    } others[] = {{'w', 0, 0, 0}, {'w', 1, 0, 0}, {'w', 3, 0, 0}, {'w', 4, 3, 0}, {'w', 8, 3, 0}, {'r', 0, 0, 0},
-                  {'r', 1, 0, 0}, {'r', 3, 0, 0}, {'r', 4, 0, 0}, {'r', 5, 0, 0}, {'r', 6, 0, 0}, {'r', 2, 5, 0},
-                  {'b', 0, 0, 0}, {'b', 1, 0, 1}, {'b', 4, 0, 4}, {'b', 64, 0, 64}, {'b', 65536, 9, 0},
-                  {'s', 15, 0, 0}, {'s', 16, 9, 0}, {'w', 7, 0, 0}, {'W', 2, 5, 0}, {'R', 7, 0, 0}, {'W', 7, 0, 0},
-                  {'R', 2, 6, 0}};
-    for (size_t i = 0; i < COUNT(others); i++) {
-        int number = (int)others[i].number;
-        zk_b_state s = good_state(64);
-        s.port.counter = 0, s.control.readmode = others[i].access == 'W' || others[i].access == 'R';
-        s.held.red = 0x5a, s.held.green = 0, s.held.blue = 0xc3;
-        switch (others[i].access) {
-        case 'w': case 'W': s = try_write(s, number, 0xff); break;
-        case 'r': case 'R': s = try_read(s, number); break;
-        case 'b': s = try_blank(s, others[i].number); break;
-        default: s = try_sync(s, number); break;
-        }
-        CHECK(last.told[0] == others[i].refusal && last.told[2] == others[i].count, "%c%d: refusal %u, count %u",
-              others[i].access, number, last.told[0], last.told[2]);
-        CHECK(told_colour() == 0 && held_in(s) == 0x5a00c3, "%c%d tells %06x, and %06x is held", others[i].access,
-              number, (unsigned)told_colour(), (unsigned)held_in(s));
-        s.ident.revision = 8, s = try_reset(s), check_refusal(&resets, 0, -1, 9);
-        CHECK(held_in(s) == 0x5a00c3, "a refused reset leaves %06x", (unsigned)held_in(s));
-        s.ident.revision = 7, s = try_reset(s), check_held("a reset", 0, 0, s, 0);
-    }
 }
 
 /* ---- by hand: the ring */
@@ -612,7 +473,6 @@ static void a_reset_of_any_queue(void) {
         for (int i = 0; i < 64; i++) put_place(i, n % 2 ? UINT64_MAX : random_bits());
         s = try_reset(s);
         CHECK(last.told[0] == 0 && s.fifo.first == 0 && s.fifo.waiting == 0, "%d wait from %d on", 255 - n, n);
-        CHECK(held_in(s) == 0 && told_colour() == 0, "%06x is held after it", (unsigned)held_in(s));
         try_read(s, 4);
         CHECK(last.told[0] == 0 && last.told[1] == 0x18, "status %02x after it", last.told[1]);
     }
@@ -687,7 +547,7 @@ static void refused_accesses(zk_b_state s, int refusal, int kind) {
 
 /* 1, then 9, for the state, just over each edge, and for arguments, then what the access brings */
 static void the_order_of_refusals(void) {
-    static const uint32_t at[9] = {0, 9, 12, 0x10000, 0x15fff, 13, 0xffff, 0x16000, UINT32_MAX};
+    static const uint32_t at[9] = {0, 8, 12, 0x10000, 0x15fff, 9, 0xffff, 0x16000, UINT32_MAX};
     for (int n = 0; n < 16; n++) {
         lend(queue_sizes[n / 4], map_sizes[n % 4]);
         for (int kind = -1; kind < SPOILT; kind++) {
@@ -715,13 +575,13 @@ static void the_order_of_refusals(void) {
 static uint32_t look_at(zk_b_state s, uint32_t place) { return as_number(zk_b_look(s, place, LENT)); }
 static uint32_t good_look(uint32_t place) { return look_at(good_state(some_waiting()), place); }
 
-/* A state of thirteen different numbers, in read mode, with entries waiting whose colours differ from what the map has
- * at their addresses; and a map whose bytes hold their own numbers, the low byte first and then the high one: no two
- * bytes are alike in both rounds. */
+/* A state of ten different numbers, in read mode, with entries waiting whose colours differ from what the map has at
+ * their addresses; and a map whose bytes hold their own numbers, the low byte first and then the high one: no two bytes
+ * are alike in both rounds. */
 static void every_place_of_a_look(void) {
-    static const zk_b_state s = {{0x1234, 2, 0x91, 0x7e}, {0x1b, 1}, {6, 13}, {50, 33}, {0xc1, 0xd2, 0xe3}};
-    static const uint32_t numbers[14] = {0x1234, 2,  0x91, 0x7e, 0x1b, 1,  6,
-                                         13,     33, 0xc1, 0xd2, 0xe3, 50, REFUSED(3)};
+    static const zk_b_state s = {{0x1234, 2, 0x91, 0x7e}, {0x1b, 1}, {6, 13}, {50, 33}};
+    static const uint32_t numbers[13] = {0x1234, 2,  0x91,       0x7e,       0x1b,       1, 6,
+                                         13,     33, REFUSED(3), REFUSED(3), REFUSED(3), 50};
     unsigned (*const rounds[2])(unsigned) = {low_byte, high_byte};
     for (int round = 0; round < 2; round++) {
         fill_map(rounds[round]);
@@ -731,7 +591,7 @@ static void every_place_of_a_look(void) {
                                     (uint8_t)~map[first + 2]);
             put_entry(s, (int)i, i < 33 ? e : UINT64_MAX);
         }
-        for (uint32_t place = 0; place < 14; place++)
+        for (uint32_t place = 0; place < 13; place++)
             CHECK(look_at(s, place) == numbers[place], "place %u: %06x", (unsigned)place, (unsigned)look_at(s, place));
         for (unsigned i = 0; i < ZK_B_MAP; i++)
             CHECK(look_at(s, ZK_B_LOOK_MAP + i) == rounds[round](i), "map byte %u: %06x", i,
@@ -743,18 +603,16 @@ static void every_place_of_a_look(void) {
 
 /* the header's names, in the order of the places */
 static void names_of_the_places(void) {
-    static const int in_order[13] = {ZK_B_LOOK_ADDRESS,    ZK_B_LOOK_COUNTER,   ZK_B_LOOK_RED,
-                                     ZK_B_LOOK_GREEN,      ZK_B_LOOK_COMMAND,   ZK_B_LOOK_READMODE,
-                                     ZK_B_LOOK_REVISION,   ZK_B_LOOK_BOARD,     ZK_B_LOOK_WAITING,
-                                     ZK_B_LOOK_HELD_RED,   ZK_B_LOOK_HELD_GREEN, ZK_B_LOOK_HELD_BLUE,
-                                     ZK_B_LOOK_FIRST};
-    for (int i = 0; i < 13; i++) CHECK(in_order[i] == i, "the name of place %d is %d", i, in_order[i]);
-    CHECK(ZK_B_LOOK_MAP == 0x10000, "the name of the map's first place");
+    static const int in_order[9] = {ZK_B_LOOK_ADDRESS,  ZK_B_LOOK_COUNTER, ZK_B_LOOK_RED,
+                                    ZK_B_LOOK_GREEN,    ZK_B_LOOK_COMMAND, ZK_B_LOOK_READMODE,
+                                    ZK_B_LOOK_REVISION, ZK_B_LOOK_BOARD,   ZK_B_LOOK_WAITING};
+    for (int i = 0; i < 9; i++) CHECK(in_order[i] == i, "the name of place %d is %d", i, in_order[i]);
+    CHECK(ZK_B_LOOK_FIRST == 12 && ZK_B_LOOK_MAP == 0x10000, "the names of the first position and of the map");
 }
 
 static void places_that_are_not_there(void) {
-    static const uint32_t there[] = {0, 8, 9, 10, 11, 12, 0x10000, 0x15fff};
-    static const uint32_t edges[] = {13,     14,     15,              0xff,    0x100,   0x109,
+    static const uint32_t there[] = {0, 8, 12, 0x10000, 0x15fff};
+    static const uint32_t edges[] = {9,      10,     11,              13,      14,      15,        0xff, 0x100,
                                      0x1000, 0xffff, 0x10000 + 24576, 0x1ffff, 0x20000, 0xffffffff};
     check_places(good_look, there, COUNT(there), edges, COUNT(edges), 17);
 }
@@ -803,10 +661,6 @@ int main(void) {
     RUN(every_edge_of_the_status);
     RUN(a_full_queue);
     RUN(the_forced_transfer);
-    RUN(pixels_set_it);
-    RUN(the_map_may_change);
-    RUN(a_forced_write_tells_it);
-    RUN(no_other_call_tells_it);
     RUN(colours_round_the_end);
     RUN(the_oldest_first);
     RUN(waiting_places_alone_are_read);

@@ -18,15 +18,15 @@
  *    pointer and length. Select and byte are both numbers of 8 bits, so that no compiler sees the two exchanged: write
  *    the select by its name.
  *  - Refusals are the numbers of zk_refusal_number, 0 for none; zk_refusal_text has them in words. A refused call
- *    changes no lent byte, hands a state back as it was given, and answers 0 for every value, count and colour; a
- *    malformed sheet's refusal also tells the line. Where two are due, the one that is tried first is given.
+ *    changes no lent byte, hands a state back as it was given, and answers 0 for every value and count; a malformed
+ *    sheet's refusal also tells the line. Where two are due, the one that is tried first is given.
  *  - States are plain structs that the caller owns, with each field's range beside it. They go in by value, and a call
  *    that is handed one outside its ranges is ZK_OUT_OF_RANGE. Five differ: zk_a_reset and zk_c_reset take any state,
  *    zk_b_reset reads its ident alone, zk_a_step and zk_a_tick have the clock alone, and the clock of zk_a_tick is
  *    lent and changed in place.
- *  - Keep the state of every answer. It comes back from each call that may change it, on chip B from a pixel too.
- *    Lent tables are changed in place, so that a state from before the call no longer fits them: chip B then loses
- *    waiting entries, or takes what an unused place still holds for one (examples/lent.c).
+ *  - Keep the state of every answer. It comes back from each call that may change it. Lent tables are changed in
+ *    place, so that a state from before the call no longer fits them: chip B then loses waiting entries, or takes what
+ *    an unused place still holds for one (examples/lent.c).
  *  - Chips. Who does not want to keep state and tables apart takes a zk_a_chip, zk_b_chip or zk_c_chip, which holds
  *    both, and the calls named after it (zk_a_chip_write and so on): the same calls, that keep the state in the chip.
  *  - Answers. The expander and the calls on sheets answer one number of 64 bits: zk_refusal, zk_value, zk_count,
@@ -51,9 +51,9 @@ extern "C" {
 
 /* The version of this header. While the major number is 0, the minor one steps when a caller must change something. */
 #define ZK_VERSION_MAJOR 0
-#define ZK_VERSION_MINOR 4
+#define ZK_VERSION_MINOR 3
 #define ZK_VERSION_PATCH 0
-#define ZK_VERSION_TEXT "0.4.0"
+#define ZK_VERSION_TEXT "0.3.0"
 #define ZK_VERSION (ZK_VERSION_MAJOR * 65536 + ZK_VERSION_MINOR * 256 + ZK_VERSION_PATCH)
 
 /* The version of the library that is linked: the same packed number, and the same text, with zeros behind it. */

@@ -1,5 +1,5 @@
-/* zikombaru_common.h: what the parts of zikombaru.h share: the warning for a dropped answer, a colour and its
- * components, the nine refusals as numbers and in words, small answers, and how an answer of 64 bits is read. The
+/* zikombaru_common.h: what the parts of zikombaru.h share: the warning for a dropped answer, the components of a
+ * colour, the nine refusals as numbers and in words, small answers, and how an answer of 64 bits is read. The
  * conventions of zikombaru.h hold. */
 #ifndef ZIKOMBARU_COMMON_H
 #define ZIKOMBARU_COMMON_H
@@ -19,13 +19,6 @@
  * pointer, chip B's counter and chip C's place in the order. Entry e of a table has component k at 3 * e + k. */
 enum zk_component { ZK_RED = 0, ZK_GREEN = 1, ZK_BLUE = 2 };
 #define ZK_COMPONENTS 3
-
-/* A colour of three bytes, by value. */
-typedef struct zk_colour {
-    uint8_t red;
-    uint8_t green;
-    uint8_t blue;
-} zk_colour;
 
 /* The nine refusals, tried in the order 1, 9, 3, 4, 5, 6, 2, 8, 7. Each call's comment says which it gives, and
  * when. */
@@ -60,8 +53,7 @@ static inline const char *zk_refusal_text(unsigned refusal) {
 }
 
 /* Small answers, of the calls on a zk_a_chip, zk_b_chip or zk_c_chip: the refusal (0 for none), with the byte that a
- * read answers, or with how many entries were moved, and for a write of chip B that moved some the colour held
- * meanwhile (zikombaru_ms622424.h), else 0; all 0 where refused. */
+ * read answers, or with how many entries were moved; 0 where refused. */
 typedef struct zk_told {
     uint8_t refusal;
     uint8_t value;
@@ -70,7 +62,6 @@ typedef struct zk_told {
 typedef struct zk_moved {
     uint8_t refusal;
     uint16_t count;
-    zk_colour held;
 } zk_moved;
 
 /* How a 64-bit answer is read: bits 0 to 7 the refusal, 8 to 15 spare, 16 to 31 the value, 32 to 47 the count, 48 to

@@ -2,8 +2,8 @@
  * sheet's Write FIFO. The conventions of zikombaru.h hold.
  *
  * Mosel Vitelic's data sheet of the MS622424 (004) decides: the truth table the accesses, the internal registers their
- * bits, the pin descriptions pixel, blanking and reset. Not modelled: clocks, pipeline delay, bus timing, and that the
- * outputs are held during a read of the palette too.
+ * bits, the pin descriptions pixel, blanking and reset. Not modelled: clocks, pipeline delay, bus timing, the held
+ * colour at the outputs.
  *
  * WHAT AN ACCESS DOES. The counter says which component of the entry at the address is next.
  *
@@ -29,18 +29,12 @@
  * stays as it is until the entry is moved. If 64 wait when the write comes, be it red, green or blue, the four oldest
  * are moved into the map first, and the write's count is 4. In read mode a palette write is refused.
  *
- * THE HELD COLOUR. While a write moves entries, in the midst of the picture, the chip's outputs hold the colour of the
- * last pixel. So the state keeps that colour. Each accepted pixel sets it to what it shows, a reset to 0, and nothing
- * else changes it: no refused pixel, no transfer, and no change of the map entry that was shown, since the colour is
- * kept and not looked up again. Only an accepted write whose COUNT IS 4 answers it, as it stood when the write came;
- * every other call answers 0 there, blanking too. Ask the count and not the colour, since black may be held.
- *
  * Blanking moves the oldest entries into the map, in read mode too. So to read the map back: blank until nothing waits
  * (status bit EFB is 0), write READMODE, write the address, read the palette; then read READMODE. A read of the
  * palette answers the component that the counter names and moves the counter as a write does; after blue the address
  * steps. Outside read mode a palette read is refused, and in it while entries wait.
  *
- * Address writes, selects 3 and 7, blanking, palette reads and pixels leave the kept red and green as they are. */
+ * Address writes, selects 3 and 7, blanking and palette reads leave the kept red and green as they are. */
 #ifndef ZIKOMBARU_MS622424_H
 #define ZIKOMBARU_MS622424_H
 
@@ -111,7 +105,7 @@ enum zk_b_mode {
 
 /* The state beside the tables, with each field's range. It stands in parts, so that a field that is added later moves
  * its own part alone: code that hands on a part, or names a field by its part, stays as it is. The bytes between the
- * parts and behind the last mean nothing. */
+ * parts mean nothing. */
 
 /* what accesses to the color map move */
 typedef struct zk_b_port {
@@ -139,33 +133,28 @@ typedef struct zk_b_fifo {
 } zk_b_fifo;
 
 /* Zeroed it is in range, with an empty queue; but a reset leaves 0x03 in the command register. So set revision and
- * board number, and reset. Version 0.3.0 had no held colour. */
+ * board number, and reset. */
 typedef struct zk_b_state {
     zk_b_port port;
     zk_b_control control;
     zk_b_ident ident;
     zk_b_fifo fifo;
-    zk_colour held; /* the colour of the last accepted pixel, any; zero at reset */
 } zk_b_state;
 
-/* refusal (0 for none), the value read, how many entries were moved into the map, the colour held meanwhile (of a write
- * with a count of 4, else 0), and the state after the call */
+/* refusal (0 for none), the value read, how many entries were moved into the map, and the state after the call */
 typedef struct zk_b_answer {
     uint8_t refusal;
     uint8_t value;
     uint16_t count;
-    zk_colour held;
     zk_b_state state;
 } zk_b_answer;
 
-/* refusal (0 for none), the colour that is shown, and the state after the call, which holds it; version 0.3.0 answered
- * no state */
+/* refusal (0 for none), and the colour that is shown */
 typedef struct zk_b_shown {
     uint8_t refusal;
     uint8_t red;
     uint8_t green;
     uint8_t blue;
-    zk_b_state state;
 } zk_b_shown;
 
 /* An entry as a place of the queue holds it: red in the low byte, then green, blue and the address, below 8,192. */
@@ -177,8 +166,8 @@ static inline uint64_t zk_b_entry(uint16_t address, uint8_t red, uint8_t green, 
  * with ZK_OUT_OF_RANGE a state or a queue out of range: a field, or a waiting address of 8,192 or more. What else it
  * refuses stands beside it, in the order of trying. */
 
-/* A write of a byte to a select. The count is 4 where a full queue made room first, and held is then the held colour;
- * else both are 0. Then ZK_NO_ACCESS: selects 4, 5, 6 and over 7; ZK_READ_MODE: select 2 in read mode. */
+/* A write of a byte to a select. The count is 4 where a full queue made room first, else 0. Then ZK_NO_ACCESS: selects
+ * 4, 5, 6 and over 7; ZK_READ_MODE: select 2 in read mode. */
 ZK_ANSWER zk_b_answer zk_b_write(zk_b_state state, uint8_t select, uint8_t byte, uint64_t *queue, size_t queue_length,
                                  uint8_t *map, size_t map_length);
 
@@ -188,7 +177,7 @@ ZK_ANSWER zk_b_answer zk_b_read(zk_b_state state, uint8_t select, const uint64_t
                                 const uint8_t *map, size_t map_length);
 
 /* The places of a look: one number each, but for the map, whose byte i stands at ZK_B_LOOK_MAP + i. The waiting
- * entries are no places; how many wait is one, and the first position. The held colour has three. */
+ * entries are no places; how many wait is one, and the first position. */
 enum zk_b_place {
     ZK_B_LOOK_ADDRESS = 0x0,
     ZK_B_LOOK_COUNTER = 0x1,
@@ -199,10 +188,7 @@ enum zk_b_place {
     ZK_B_LOOK_REVISION = 0x6,
     ZK_B_LOOK_BOARD = 0x7,
     ZK_B_LOOK_WAITING = 0x8,
-    ZK_B_LOOK_HELD_RED = 0x9,
-    ZK_B_LOOK_HELD_GREEN = 0xa,
-    ZK_B_LOOK_HELD_BLUE = 0xb,
-    ZK_B_LOOK_FIRST = 0xc,  /* the queue's first position */
+    ZK_B_LOOK_FIRST = 0xc,  /* the queue's first position; 0x9, 0xa and 0xb are not there */
     ZK_B_LOOK_MAP = 0x10000 /* the map's first byte, of ZK_B_MAP */
 };
 
@@ -212,13 +198,12 @@ ZK_ANSWER zk_looked zk_b_look(zk_b_state state, uint32_t place, const uint64_t *
                               const uint8_t *map, size_t map_length);
 
 /* A blanking period of 0 to 65,535 slots, each of which moves the oldest entry, if one waits, into the map: the count
- * is the smaller of slots and waiting, and held is 0, whatever the count. More slots are ZK_OUT_OF_RANGE. */
+ * is the smaller of slots and waiting. More slots are ZK_OUT_OF_RANGE. */
 ZK_ANSWER zk_b_answer zk_b_blank(zk_b_state state, uint32_t slots, const uint64_t *queue, size_t queue_length,
                                  uint8_t *map, size_t map_length);
 
-/* The colour of a pixel of 24 bits, in a mode of zk_b_mode, from the map as stored. The state after it holds that
- * colour, and is otherwise the same; a refused pixel leaves the held colour too. A mode over 3 and a word of 2^24 or
- * more are ZK_OUT_OF_RANGE. */
+/* The colour of a pixel of 24 bits, in a mode of zk_b_mode, from the map as stored. A mode over 3 and a word of 2^24
+ * or more are ZK_OUT_OF_RANGE. */
 ZK_ANSWER zk_b_shown zk_b_pixel(zk_b_state state, uint8_t mode, uint32_t word, const uint64_t *queue,
                                 size_t queue_length, const uint8_t *map, size_t map_length);
 
@@ -226,10 +211,10 @@ ZK_ANSWER zk_b_shown zk_b_pixel(zk_b_state state, uint8_t mode, uint32_t word, c
  * is lent no map. Signals over 15 are ZK_OUT_OF_RANGE. */
 ZK_ANSWER zk_b_answer zk_b_sync(zk_b_state state, uint8_t signals, const uint64_t *queue, size_t queue_length);
 
-/* A reset: none wait, and the first position is 0; address, counter, kept red and green and the held colour become 0,
- * the command register 0x03, read mode off; revision and board number are kept, and so is the map, which it is not
- * lent. It reads no place of the queue, and accepts every other state. Refusals, in this order: ZK_LENT_LENGTH, the
- * queue; ZK_OUT_OF_RANGE, a revision over 7 or a board number over 15. */
+/* A reset: none wait, and the first position is 0; address, counter, kept red and green become 0, the command register
+ * 0x03, read mode off; revision and board number are kept, and so is the map, which it is not lent. It reads no place
+ * of the queue, and accepts every other state. Refusals, in this order: ZK_LENT_LENGTH, the queue; ZK_OUT_OF_RANGE, a
+ * revision over 7 or a board number over 15. */
 ZK_ANSWER zk_b_answer zk_b_reset(zk_b_state state, const uint64_t *queue, size_t queue_length);
 
 /* A whole chip: the state and its tables, some 25,000 bytes, so that ZK_LENT_LENGTH can't be. Zeroed it is in range,
@@ -243,7 +228,7 @@ typedef struct zk_b_chip {
 
 static inline ZK_ANSWER zk_moved zk_b_chip_write(zk_b_chip *chip, uint8_t select, uint8_t byte) {
     zk_b_answer answer = zk_b_write(chip->state, select, byte, chip->queue, ZK_B_PLACES, chip->map, ZK_B_MAP);
-    zk_moved moved = {answer.refusal, answer.count, answer.held};
+    zk_moved moved = {answer.refusal, answer.count};
     chip->state = answer.state;
     return moved;
 }
@@ -261,15 +246,13 @@ static inline ZK_ANSWER zk_looked zk_b_chip_look(const zk_b_chip *chip, uint32_t
 
 static inline ZK_ANSWER zk_moved zk_b_chip_blank(zk_b_chip *chip, uint32_t slots) {
     zk_b_answer answer = zk_b_blank(chip->state, slots, chip->queue, ZK_B_PLACES, chip->map, ZK_B_MAP);
-    zk_moved moved = {answer.refusal, answer.count, answer.held};
+    zk_moved moved = {answer.refusal, answer.count};
     chip->state = answer.state;
     return moved;
 }
 
-static inline ZK_ANSWER zk_b_shown zk_b_chip_pixel(zk_b_chip *chip, uint8_t mode, uint32_t word) {
-    zk_b_shown shown = zk_b_pixel(chip->state, mode, word, chip->queue, ZK_B_PLACES, chip->map, ZK_B_MAP);
-    chip->state = shown.state;
-    return shown;
+static inline ZK_ANSWER zk_b_shown zk_b_chip_pixel(const zk_b_chip *chip, uint8_t mode, uint32_t word) {
+    return zk_b_pixel(chip->state, mode, word, chip->queue, ZK_B_PLACES, chip->map, ZK_B_MAP);
 }
 
 static inline ZK_ANSWER zk_told zk_b_chip_sync(const zk_b_chip *chip, uint8_t signals) {

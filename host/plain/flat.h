@@ -6,8 +6,8 @@
 #include "zikombaru.h"
 
 struct flat {
-    uint16_t told[6];   /* refusal, value, count, red, green, blue: of a colour that is shown, or held */
-    uint16_t state[13]; /* in the order of a look's places */
+    uint16_t told[6];   /* refusal, value, count, red, green, blue */
+    uint16_t state[10]; /* in the order of a look's places */
 };
 
 static inline struct flat flat_a(zk_a_answer a) {
@@ -20,17 +20,10 @@ static inline struct flat flat_a(zk_a_answer a) {
 
 static inline struct flat flat_b(zk_b_answer a) {
     zk_b_state s = a.state;
-    struct flat flat = {{a.refusal, a.value, a.count, a.held.red, a.held.green, a.held.blue},
+    struct flat flat = {{a.refusal, a.value, a.count},
                         {s.port.address, s.port.counter, s.port.red, s.port.green, s.control.command,
-                         s.control.readmode, s.ident.revision, s.ident.board, s.fifo.waiting, s.held.red, s.held.green,
-                         s.held.blue, s.fifo.first}};
+                         s.control.readmode, s.ident.revision, s.ident.board, s.fifo.waiting, s.fifo.first}};
     return flat;
-}
-
-/* a pixel: as an answer without value and count, whose colour is shown */
-static inline struct flat flat_shown_b(zk_b_shown p) {
-    zk_b_answer a = {p.refusal, 0, 0, {p.red, p.green, p.blue}, p.state};
-    return flat_b(a);
 }
 
 /* What a call promises of chip B's queue: the waiting entries, the oldest first, and 0 behind them. A state out of its
@@ -62,9 +55,11 @@ static inline struct flat flat_clock(zk_a_clock_answer a) {
     return flat;
 }
 
-static inline struct flat flat_shown_a(zk_a_shown p) {
-    struct flat flat = {{p.refusal, 0, 0, p.red, p.green, p.blue}, {0}};
+static inline struct flat flat_shown(unsigned refusal, unsigned red, unsigned green, unsigned blue) {
+    struct flat flat = {{(uint16_t)refusal, 0, 0, (uint16_t)red, (uint16_t)green, (uint16_t)blue}, {0}};
     return flat;
 }
+static inline struct flat flat_shown_a(zk_a_shown p) { return flat_shown(p.refusal, p.red, p.green, p.blue); }
+static inline struct flat flat_shown_b(zk_b_shown p) { return flat_shown(p.refusal, p.red, p.green, p.blue); }
 
 #endif

@@ -1,4 +1,4 @@
-/* Chip B in plain C, from document 01, "Chip B", and document 02, P5, P6 and P7. */
+/* Chip B in plain C, from document 01, "Chip B", and document 02, P5 and P7. */
 #include "plain.h"
 
 /* Every waiting entry has an address below 8,192: those up to the places' end, then those from place 0 on. */
@@ -21,11 +21,8 @@ static unsigned standing(zk_b_state s, const uint64_t *queue, size_t places, siz
     return queue_in_range(queue, s.fifo) ? 0 : ZK_OUT_OF_RANGE;
 }
 
-static const zk_colour black = {0, 0, 0};
-
-/* of every call but a write that forces a transfer, which alone tells the held colour */
 static zk_b_answer answer(unsigned refusal, unsigned value, unsigned count, zk_b_state s) {
-    zk_b_answer a = {(uint8_t)refusal, (uint8_t)value, (uint16_t)count, black, s};
+    zk_b_answer a = {(uint8_t)refusal, (uint8_t)value, (uint16_t)count, s};
     return a;
 }
 
@@ -55,12 +52,7 @@ static zk_b_state stepped(zk_b_state s) {
 }
 
 static zk_b_answer palette_write(zk_b_state s, uint8_t byte, uint64_t *queue, uint8_t *map) {
-    unsigned moved = 0;
-    zk_colour held = black;
-    if (s.fifo.waiting == ZK_B_PLACES) {
-        moved = transfer(&s, ZK_B_FORCED, queue, map);
-        held = s.held;
-    }
+    unsigned moved = s.fifo.waiting == ZK_B_PLACES ? transfer(&s, ZK_B_FORCED, queue, map) : 0;
     if (s.port.counter == 0) {
         s.port.red = byte;
     } else if (s.port.counter == 1) {
@@ -69,8 +61,7 @@ static zk_b_answer palette_write(zk_b_state s, uint8_t byte, uint64_t *queue, ui
         unsigned end = s.fifo.first + s.fifo.waiting++;
         queue[end % ZK_B_PLACES] = zk_b_entry(s.port.address, s.port.red, s.port.green, byte);
     }
-    zk_b_answer a = {0, 0, (uint16_t)moved, held, stepped(s)};
-    return a;
+    return answer(0, 0, moved, stepped(s));
 }
 
 zk_b_answer NAME(b_write)(zk_b_state s, uint8_t select, uint8_t byte, uint64_t *queue, size_t places, uint8_t *map,
@@ -144,9 +135,6 @@ zk_looked NAME(b_look)(zk_b_state s, uint32_t place, const uint64_t *queue, size
     case ZK_B_LOOK_REVISION: return looked(0, s.ident.revision);
     case ZK_B_LOOK_BOARD: return looked(0, s.ident.board);
     case ZK_B_LOOK_WAITING: return looked(0, s.fifo.waiting);
-    case ZK_B_LOOK_HELD_RED: return looked(0, s.held.red);
-    case ZK_B_LOOK_HELD_GREEN: return looked(0, s.held.green);
-    case ZK_B_LOOK_HELD_BLUE: return looked(0, s.held.blue);
     case ZK_B_LOOK_FIRST: return looked(0, s.fifo.first);
     default: return looked(ZK_NO_ACCESS, 0);
     }
@@ -161,29 +149,24 @@ zk_b_answer NAME(b_blank)(zk_b_state s, uint32_t slots, const uint64_t *queue, s
     return answer(0, 0, moved, s);
 }
 
-static zk_b_shown shown(unsigned refusal, zk_colour colour, zk_b_state s) {
-    zk_b_shown p = {(uint8_t)refusal, colour.red, colour.green, colour.blue, s};
-    return p;
-}
-
-/* the state after it holds the colour that is shown */
 zk_b_shown NAME(b_pixel)(zk_b_state s, uint8_t mode, uint32_t word, const uint64_t *queue, size_t places,
                          const uint8_t *map, size_t bytes) {
     unsigned refusal = standing(s, queue, places, bytes);
-    if (CHECKED && refusal == 0 && (mode > 3 || word > 0xffffff)) refusal = ZK_OUT_OF_RANGE;
-    if (refusal != 0) return shown(refusal, black, s);
+    zk_b_shown shown = {(uint8_t)refusal, 0, 0, 0};
+    if (CHECKED && refusal == 0 && (mode > 3 || word > 0xffffff)) shown.refusal = ZK_OUT_OF_RANGE;
+    if (shown.refusal != 0) return shown;
     if (mode == ZK_B_MODE_INDEX) {
         const uint8_t *entry = map + 3 * (word & (ZK_B_ENTRIES - 1));
-        s.held.red = entry[0];
-        s.held.green = entry[1];
-        s.held.blue = entry[2];
+        shown.red = entry[0];
+        shown.green = entry[1];
+        shown.blue = entry[2];
     } else {
         const uint8_t *part = map + 3 * (ZK_B_RGB1_ENTRY + 256 * (mode - ZK_B_MODE_RGB1));
-        s.held.red = part[3 * (word & 0xff)];
-        s.held.green = part[3 * (word >> 8 & 0xff) + 1];
-        s.held.blue = part[3 * (word >> 16) + 2];
+        shown.red = part[3 * (word & 0xff)];
+        shown.green = part[3 * (word >> 8 & 0xff) + 1];
+        shown.blue = part[3 * (word >> 16) + 2];
     }
-    return shown(0, s.held, s);
+    return shown;
 }
 
 zk_b_answer NAME(b_sync)(zk_b_state s, uint8_t signals, const uint64_t *queue, size_t places) {
@@ -194,7 +177,7 @@ zk_b_answer NAME(b_sync)(zk_b_state s, uint8_t signals, const uint64_t *queue, s
 }
 
 zk_b_answer NAME(b_reset)(zk_b_state s, const uint64_t *queue, size_t places) {
-    zk_b_state fresh = {{0, 0, 0, 0}, {3, 0}, s.ident, {0, 0}, {0, 0, 0}};
+    zk_b_state fresh = {{0, 0, 0, 0}, {3, 0}, s.ident, {0, 0}};
     (void)queue;
     if (CHECKED && places != ZK_B_PLACES) return answer(ZK_LENT_LENGTH, 0, 0, s);
     if (CHECKED && (s.ident.revision > 7 || s.ident.board > 15)) return answer(ZK_OUT_OF_RANGE, 0, 0, s);

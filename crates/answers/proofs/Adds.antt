@@ -24,7 +24,7 @@ says_length {t} {line} s =
 
 -- a byte in a text's next place, and none where there is no room
 module _ (t : Text) (b : ℕ) where
-  pub adds_byte : t.len < 24 → Adds t (b ∷ []) (text (set t.bytes t.len b) (t.len + 1))
+  pub adds_byte : t.len < 16 → Adds t (b ∷ []) (text (set t.bytes t.len b) (t.len + 1))
   adds_byte h line s room =
       let inside : t.len < length t.bytes = rw s.whole h in
       record {
@@ -33,7 +33,7 @@ module _ (t : Text) (b : ℕ) where
         is = rw add-one (take-suc-set t.bytes t.len b inside ∙ ap (λ (l : List ℕ). l ++ (b ∷ [])) s.is);
       }
 
-  pub adds_full : 24 ≤ t.len → Adds t (b ∷ []) t
+  pub adds_full : 16 ≤ t.len → Adds t (b ∷ []) t
   adds_full h line s room = let e = says_length s in absurd (omega arith)
 
 pub adds_none : (t : Text) → Adds t [] t
@@ -41,12 +41,12 @@ adds_none t line s room = rw append-nil s
 
 pub adds_more : {t u r : Text} (v w : List ℕ) → Adds t v u → Adds u w r → Adds t (v ++ w) r
 adds_more v w f g line s room =
-    let all : length line + (length v + length w) ≤ 24 = rw (length-append v w) at room in
+    let all : length line + (length v + length w) ≤ 16 = rw (length-append v w) at room in
     rw append_assoc at (g (line ++ v) (f line s (omega arith)) (rw (length-append line v) (omega arith)))
 
 -- a name, a word and LF are a line
-pub says_line : {u r : Text} (name : List ℕ) (len most : ℕ) (w : List ℕ) → length name ≡ 24 → length w ≤ most
-    → len + most < 24 → Adds (text name len) w u → Adds u (10 ∷ []) r → Says r (take len name ++ (w ++ 10 ∷ []))
+pub says_line : {u r : Text} (name : List ℕ) (len most : ℕ) (w : List ℕ) → length name ≡ 16 → length w ≤ most
+    → len + most < 16 → Adds (text name len) w u → Adds u (10 ∷ []) r → Says r (take len name ++ (w ++ 10 ∷ []))
 says_line name len most w long fits room f g =
     let front : Says (text name len) (take len name) = record { whole = long; inside = omega arith; is = refl } in
     let size : length (take len name) ≡ len = length-take-le len name (omega arith) in

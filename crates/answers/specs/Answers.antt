@@ -4,7 +4,7 @@ use Rattle.vocabulary.specs.Choice.{pick}
 use Rattle.hex_digits.specs.Hex.{hex}
 use Rattle.answers.specs.declared.Text.{Text}
 use Rattle.answers.specs.declared.News.{News}
-use Rattle.answers.specs.declared.News.TheVariants.{Moved, Held, Value, Look, Colour, Sync, Ten}
+use Rattle.answers.specs.declared.News.TheVariants.{Moved, Value, Look, Colour, Sync, Ten}
 
 -- a number of at most so many digits in decimal, without leading zeros
 unfoldable pub decimal : ℕ → ℕ → List ℕ
@@ -18,22 +18,9 @@ ok_text = 111 ∷ 107 ∷ 10 ∷ []
 abbrev pub bad_text : List ℕ
 bad_text = 98 ∷ 97 ∷ 100 ∷ 10 ∷ []
 
--- parts of lines: "moved=" N, a count of 16 bits; RRGGBB, a colour's three bytes; " held="
-abbrev pub moved_count : ℕ → List ℕ
-moved_count n = 109 ∷ 111 ∷ 118 ∷ 101 ∷ 100 ∷ 61 ∷ decimal 5 n
-
-abbrev pub colour_digits : ℕ → ℕ → ℕ → List ℕ
-colour_digits r g b = hex 2 r ++ hex 2 g ++ hex 2 b
-
-abbrev pub held_name : List ℕ
-held_name = 32 ∷ 104 ∷ 101 ∷ 108 ∷ 100 ∷ 61 ∷ []
-
--- "moved=" N, "moved=" N " held=" RRGGBB, "refused=" N: a refusal of 8 bits
+-- "moved=" N, "refused=" N: a count of 16 bits and a refusal of 8
 abbrev pub moved_text : ℕ → List ℕ
-moved_text n = moved_count n ++ 10 ∷ []
-
-abbrev pub held_text : ℕ → ℕ → ℕ → ℕ → List ℕ
-held_text n r g b = moved_count n ++ held_name ++ colour_digits r g b ++ 10 ∷ []
+moved_text n = 109 ∷ 111 ∷ 118 ∷ 101 ∷ 100 ∷ 61 ∷ decimal 5 n ++ 10 ∷ []
 
 abbrev pub refused_text : ℕ → List ℕ
 refused_text n = 114 ∷ 101 ∷ 102 ∷ 117 ∷ 115 ∷ 101 ∷ 100 ∷ 61 ∷ decimal 3 n ++ 10 ∷ []
@@ -46,7 +33,7 @@ abbrev pub look_text : ℕ → List ℕ
 look_text v = 108 ∷ 111 ∷ 111 ∷ 107 ∷ 61 ∷ hex 4 v ++ 10 ∷ []
 
 abbrev pub colour_text : ℕ → ℕ → ℕ → List ℕ
-colour_text r g b = 99 ∷ 111 ∷ 108 ∷ 111 ∷ 117 ∷ 114 ∷ 61 ∷ colour_digits r g b ++ 10 ∷ []
+colour_text r g b = 99 ∷ 111 ∷ 108 ∷ 111 ∷ 117 ∷ 114 ∷ 61 ∷ hex 2 r ++ hex 2 g ++ hex 2 b ++ 10 ∷ []
 
 abbrev pub sync_text : ℕ → List ℕ
 sync_text s = 115 ∷ 121 ∷ 110 ∷ 99 ∷ 61 ∷ hex 1 s ++ 10 ∷ []
@@ -57,7 +44,6 @@ ten_text t = 116 ∷ 101 ∷ 110 ∷ 61 ∷ hex 3 t ++ 10 ∷ []
 -- what an accepted call tells
 abbrev pub news_text : News → List ℕ
 news_text (Moved n) = moved_text n
-news_text (Held n r g b) = held_text n r g b
 news_text (Value v) = value_text v
 news_text (Look v) = look_text v
 news_text (Colour r g b) = colour_text r g b
@@ -71,10 +57,10 @@ told (suc n) accepted = refused_text (suc n)
 
 -- a text is this line
 pub record Says (t : Text) (line : List ℕ) : Type 0 where
-  pub whole : length t.bytes ≡ 24
-  pub inside : t.len ≤ 24
+  pub whole : length t.bytes ≡ 16
+  pub inside : t.len ≤ 16
   pub is : take t.len t.bytes ≡ line
 
 -- r is the text t with a word behind it, where there is room
 abbrev pub Adds : Text → List ℕ → Text → Type 0
-Adds t word r = (line : List ℕ) → Says t line → length line + length word ≤ 24 → Says r (line ++ word)
+Adds t word r = (line : List ℕ) → Says t line → length line + length word ≤ 16 → Says r (line ++ word)

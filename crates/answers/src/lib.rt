@@ -1,7 +1,7 @@
 // The answer lines of a replay: a line's bytes, what an accepted call tells, the lines as definitions, and their laws.
 //
-// The replay's answer lines decide; specs/Answers.antt says each. No line has more than 24 bytes with its LF, so that
-// a text of 24 holds each. Digits are written in answers_digits, a line with a number in answers_line; answers_told
+// The replay's answer lines decide; specs/Answers.antt says each. No line has more than 14 bytes with its LF, so that
+// a text of 16 holds each. Digits are written in answers_digits, a line with a number in answers_line; answers_told
 // chooses between a refusal and what a call tells. Not modelled: a sheet's 265 lines.
 ghost use Rattle.std.specs.Prelude.{[]};
 ghost use Rattle.answers.specs.Answers.{Says, ok_text, bad_text};
@@ -9,7 +9,7 @@ ghost use Rattle.answers.specs.Answers.{Says, ok_text, bad_text};
 // A line's bytes, of which the first `len` count.
 #[derive(Drop)]
 pub struct Text {
-    pub bytes: [u8; 24],
+    pub bytes: [u8; 16],
     pub len: usize,
 }
 
@@ -17,7 +17,6 @@ pub struct Text {
 #[derive(Drop)]
 pub enum News {
     Moved(u16),
-    Held(u16, u8, u8, u8),
     Value(u8),
     Look(u16),
     Colour(u8, u8, u8),
@@ -29,7 +28,7 @@ pub enum News {
 pub fn empty() -> Text
     ensures { Says result [] }
 {
-    let bytes = [0u8; 24];
+    let bytes = [0u8; 16];
     Text {
         bytes: bytes,
         len: 0,
@@ -39,7 +38,7 @@ pub fn empty() -> Text
 pub fn ok() -> Text
     ensures { Says result ok_text }
 {
-    let bytes = *b"ok\n.....................";
+    let bytes = *b"ok\n.............";
     Text {
         bytes: bytes,
         len: 3,
@@ -49,7 +48,7 @@ pub fn ok() -> Text
 pub fn bad() -> Text
     ensures { Says result bad_text }
 {
-    let bytes = *b"bad\n....................";
+    let bytes = *b"bad\n............";
     Text {
         bytes: bytes,
         len: 4,

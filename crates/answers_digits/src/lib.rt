@@ -20,7 +20,7 @@ pub fn put(t: Text, b: u8) -> Text
     ensures { Adds t (b ∷ []) result }
 {
     let len = t.len;
-    if len < 24 {
+    if len < 16 {
         let mut bytes = t.bytes;
         bytes[len] = b;
         return Text {

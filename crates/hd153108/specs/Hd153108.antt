@@ -16,7 +16,7 @@ use Rattle.std.specs.Int.Bits.{bit_and}
 use Rattle.vocabulary.specs.Line.{line}
 use Rattle.vocabulary.specs.Range.{Bound, below, equal, clear, fails}
 use Rattle.vocabulary.specs.Refusal.{Row, ◌when◌, lent_length, out_of_range, no_access, refusal_of}
-use Rattle.vocabulary.specs.Outcome.{Outcome, accepting, answering, leaving, not_reached, answered}
+use Rattle.vocabulary.specs.Outcome.{Outcome, accepting, not_reached, answered}
 use Rattle.vocabulary.specs.Component.{Component, red, green, blue, component_at, put, colour_word}
 use Rattle.vocabulary.specs.Look.{Block, ◌has◌, ◌holds◌, found, look_refusals, looked}
 use Rattle.vocabulary.specs.Face.{called_by}
@@ -461,14 +461,20 @@ accept value s = record { refusal = 0; value = value; state = s }
 
 -- an answer and the lent tables as they are after the call, as an outcome
 abbrev pub outcome : Answer → List ℕ → List ℕ → Outcome Chip
-outcome a colours overlays = answering a.refusal a.value (chip a.state colours overlays)
+outcome a colours overlays = record {
+  refusal = a.refusal;
+  value = a.value;
+  count = 0;
+  line = 0;
+  left = chip a.state colours overlays;
+}
 
 -- two calls by the part that the code is lent (proofs/Lent.antt: they are the chip's): a tick of a clock, ..
 unfoldable pub tick : Clock → Outcome Clock
 tick k = answered (refusal_of (tick_refusals k)) k (accepting 0 0 (ticked k))
 
 abbrev pub clock_outcome : ℕ → Clock → Outcome Clock
-clock_outcome refusal k = answering refusal 0 k
+clock_outcome refusal k = record { refusal = refusal; value = 0; count = 0; line = 0; left = k }
 
 -- .. and a pixel that hands back the three bytes of the chosen table, and where it is refused no byte
 unfoldable pub pixel_part : ℕ → ℕ → ℕ → Chip → Outcome (List ℕ)
@@ -477,11 +483,17 @@ pixel_part enable number byte c =
 
 -- the chip's outcomes of those two: with the clock put back into its chip, ..
 abbrev pub put_back : Outcome Clock → Chip → Outcome Chip
-put_back o c = leaving (with_clock o.left c) o
+put_back o c = record {
+  refusal = o.refusal;
+  value = o.value;
+  count = o.count;
+  line = o.line;
+  left = with_clock o.left c;
+}
 
 -- .. and with the bytes told as a colour
 abbrev pub told : Outcome (List ℕ) → Chip → Outcome Chip
-told o c = answering o.refusal (colour_of o.left) c
+told o c = record { refusal = o.refusal; value = colour_of o.left; count = o.count; line = o.line; left = c }
 
 -- two chips with equal tables
 pub record SameTables (c d : Chip) : Type 0 where

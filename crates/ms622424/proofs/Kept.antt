@@ -1,5 +1,5 @@
--- A chip in range stays in range, whatever the call; timing signals and looks leave it as it is, and pixels all but the
--- held colour. Assumes nothing.
+-- A chip in range stays in range, whatever the call; pixels, timing signals and looks leave it as it is. Assumes
+-- nothing.
 use Prim.Native.Nat.{ℕ, ◌^◌, ◌<◌, min}
 use mathlib.Core.Path.{◌≡◌, refl, sym, subst, ◌∙◌}
 use mathlib.Core.Bool.{true}
@@ -16,10 +16,9 @@ use Rattle.vocabulary.proofs.Range.{passes_holds, pair, clash}
 use Rattle.vocabulary.proofs.Every.{every_append, every_one, every_drop}
 use Rattle.vocabulary.proofs.Face.{called_clear, called_does, called_holds}
 use Rattle.vocabulary.proofs.Run.{unnoticed}
-use Rattle.ms622424.specs.declared.Colour.{Colour}
-use Rattle.ms622424.specs.Ms622424.{Chip, Entry, with_port, with_held, with_queue, with_first, lengths}
-use Rattle.ms622424.specs.Ms622424.{queue_lengths, is_in_map, ident_ranges, ranges, InRange, selected, stepped}
-use Rattle.ms622424.specs.Ms622424.{completed, complete, Moves, moves}
+use Rattle.ms622424.specs.Ms622424.{Chip, Entry, with_port, with_queue, with_first, lengths, queue_lengths, is_in_map}
+use Rattle.ms622424.specs.Ms622424.{ident_ranges, ranges, InRange, selected, stepped, completed, complete}
+use Rattle.ms622424.specs.Ms622424.{Moves, moves}
 use Rattle.ms622424.specs.Ms622424.{room_made, taken, written, buffer_stepped, answers, fresh, register_at}
 use Rattle.ms622424.specs.Ms622424.{Register, address_low, address_high, palette, command, status, buffer}
 use Rattle.ms622424.specs.Ms622424.{revision, initialization, none, Call, writes, reads, blanks, pixels}
@@ -34,9 +33,6 @@ queue_kept es m c h l n e = let size = l ∙ h.size in search
 
 first_kept : (n : ℕ) (c : Chip) → InRange c → n < 64 → InRange (with_first n c)
 first_kept n c h l = search
-
-held_kept : (held : Colour) (c : Chip) → InRange c → InRange (with_held held c)
-held_kept held c h = search
 
 stepped_kept : (k : Component) (c : Chip) → InRange c → InRange (with_port (stepped k c.port) c)
 unfolding stepped
@@ -118,8 +114,7 @@ called_keeps_range (reads select) c h =
     called_holds refusals does (reads select) c InRange h (λ t. answers_kept (register_at select) c h)
 called_keeps_range (blanks slots) c h =
     called_holds refusals does (blanks slots) c InRange h (λ t. moves_kept slots c h)
-called_keeps_range (pixels mode word) c h =
-    called_holds refusals does (pixels mode word) c InRange h (λ t. held_kept _ c h)
+called_keeps_range (pixels mode word) c h = called_holds refusals does (pixels mode word) c InRange h (λ t. h)
 called_keeps_range (signals s) c h = called_holds refusals does (signals s) c InRange h (λ t. h)
 called_keeps_range resets c h =
     called_holds refusals does resets c InRange h
@@ -127,13 +122,17 @@ called_keeps_range resets c h =
 called_keeps_range (looks place) c h =
     called_holds refusals does (looks place) c InRange h (λ t. subst InRange (sym (look_leaves place c)) h)
 
--- ---- what a pixel leaves: all but the held colour
-pub pixel_leaves : (mode word : ℕ) (c : Chip)
-    → (called (pixels mode word) c).left ≡ with_held (called (pixels mode word) c).left.held c
-pixel_leaves mode word c =
-    called_holds refusals does (pixels mode word) c (λ (d : Chip). d ≡ with_held d.held c) refl (λ t. refl)
-
 -- ---- the calls that no other call can tell from not being made
+pixel_stays : (k : Call) (c : Chip) → is_pixel k ≡ true → (called k c).left ≡ c
+pixel_stays (writes select byte) c e = clash (sym e)
+pixel_stays (reads select) c e = clash (sym e)
+pixel_stays (blanks slots) c e = clash (sym e)
+pixel_stays (pixels mode word) c e =
+    called_holds refusals does (pixels mode word) c (λ (d : Chip). d ≡ c) refl (λ t. refl)
+pixel_stays (signals s) c e = clash (sym e)
+pixel_stays resets c e = clash (sym e)
+pixel_stays (looks place) c e = clash (sym e)
+
 signals_stay : (k : Call) (c : Chip) → is_signals k ≡ true → (called k c).left ≡ c
 signals_stay (writes select byte) c e = clash (sym e)
 signals_stay (reads select) c e = clash (sym e)
@@ -159,6 +158,9 @@ pixels_named mode word = refl
 
 pub signals_named : (s : ℕ) → is_signals (signals s) ≡ true
 signals_named s = refl
+
+pub pixels_unnoticed : Unnoticed called is_pixel
+pixels_unnoticed = unnoticed called is_pixel pixel_stays
 
 pub signals_unnoticed : Unnoticed called is_signals
 signals_unnoticed = unnoticed called is_signals signals_stay

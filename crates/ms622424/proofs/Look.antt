@@ -24,12 +24,11 @@ module _ (c : Chip) (g : InRange c) where
   unfolding called_by
   look_found place n e = look_tells c (lengths_right c g) (ranges_right c g) n e
 
-  -- the registers, how many wait, the held colour, and the queue's first position
+  -- the registers, how many wait, and the queue's first position
   pub look_state :
       Tells 0x0 c.port.address × Tells 0x1 c.port.counter × Tells 0x2 c.port.red
       × Tells 0x3 c.port.green × Tells 0x4 c.control.command × Tells 0x5 c.control.readmode
       × Tells 0x6 c.ident.revision × Tells 0x7 c.ident.board × Tells 0x8 (length c.waiting)
-      × Tells 0x9 c.held.red × Tells 0xA c.held.green × Tells 0xB c.held.blue
       × Tells 0xC c.lent.first
   unfolding found pick meets
   look_state = search look_found
@@ -39,14 +38,14 @@ module _ (c : Chip) (g : InRange c) where
   unfolding ends every
   look_map place i e h =
       look_found place _
-      (found_here (take 13 (look_places c)) [] 13 place refl (omega arith) tt (0x10000 holds c.map) [] i e
+      (found_here (take 10 (look_places c)) [] 13 place refl (omega arith) tt (0x10000 holds c.map) [] i e
       (omega (arith, g.size)))
 
   -- no other place is there
-  pub look_nowhere : (place : ℕ) → 13 ≤ place → (0x10000 ≤ place → place < 0x16000 → ⊥)
+  pub look_nowhere : (place : ℕ) → 9 ≤ place → (place ≡ 0xC → ⊥) → (0x10000 ≤ place → place < 0x16000 → ⊥)
       → called (looks place) c ≡ refusing 3 0 c
   unfolding called_by ends every
-  look_nowhere place h o =
+  look_nowhere place h f o =
       look_misses c (lengths_right c g) (ranges_right c g)
-      (found_nowhere (take 13 (look_places c)) (drop 13 (look_places c)) 13 place refl h
-      (λ l u. o l (omega (arith, g.size)), tt))
+      (found_nowhere (take 9 (look_places c)) (drop 9 (look_places c)) 9 place refl h
+      (λ l u. f (omega arith), (λ l u. o l (omega (arith, g.size)), tt)))

@@ -6,13 +6,12 @@ use native.Mathlib.Nat.{add-zero}
 use native.Mathlib.Omega.{arith}
 use lib.ListN.{get_or}
 use Rattle.vocabulary.specs.Refusal.{lent_length, out_of_range}
-use Rattle.vocabulary.specs.Outcome.{Outcome, accepting, refusing}
+use Rattle.vocabulary.specs.Outcome.{accepting, refusing}
 use Rattle.vocabulary.specs.Component.{Component, red, green, blue, colour_word}
 use Rattle.vocabulary.specs.Face.{called_by}
 use Rattle.vocabulary.proofs.Range.{holds_passes, not_fails}
 use Rattle.vocabulary.proofs.Call.{stops, goes_on}
-use Rattle.ms622424.specs.Ms622424.{Chip, with_held, colour, InRange, pixel_byte, entry_shown, gun_shown}
-use Rattle.ms622424.specs.Ms622424.{pixel_refusals, pixels, called}
+use Rattle.ms622424.specs.Ms622424.{Chip, InRange, pixel_byte, entry_shown, gun_shown, pixel_refusals, pixels, called}
 use Rattle.ms622424.proofs.InRange.{lengths_right, ranges_hold}
 
 byte_shown : (word : ℕ) (k : Component) → word < 2 ^ 24 → pixel_byte k word < 256
@@ -37,17 +36,16 @@ module _ (mode word : ℕ) (c : Chip) (h : InRange c) where
       stops (pixel_refusals mode word c) 0 c _ (lent_length ∷ []) out_of_range 8 _ refl refl (lengths_right c h, tt)
       (not_fails _ (λ g. f g.0 g.1.0))
 
-  -- the three bytes at the entries that the guns show: told, and held
-  abbrev pub Shows : ℕ → ℕ → ℕ → Outcome Chip
-  Shows r g b = accepting (colour_word r g b) 0 (with_held (colour r g b) c)
-
+  -- the three bytes at the entries that the guns show
   pub pixel_does : mode < 4 → word < 2 ^ 24 → {r g b : ℕ}
       → r ≡ entry_shown mode word red → g ≡ entry_shown mode word green → b ≡ entry_shown mode word blue
-      → Shows (get_or c.map (3 * r) 0) (get_or c.map (3 * g + 1) 0) (get_or c.map (3 * b + 2) 0)
+      → accepting (colour_word (get_or c.map (3 * r) 0) (get_or c.map (3 * g + 1) 0) (get_or c.map (3 * b + 2) 0)) 0 c
       ≡ called (pixels mode word) c
   unfolding called_by gun_shown
   pixel_does m w {r} {g} {b} er eg eb =
-      ap (λ (n : ℕ). Shows (get_or c.map n 0) (get_or c.map (3 * g + 1) 0) (get_or c.map (3 * b + 2) 0))
+      ap
+      (λ (n : ℕ). accepting
+      (colour_word (get_or c.map n 0) (get_or c.map (3 * g + 1) 0) (get_or c.map (3 * b + 2) 0)) 0 c)
       (sym (add-zero (3 * r)))
       ∙ (rw (er, eg, eb) refl
       ∙ goes_on (pixel_refusals mode word c) 0 c _ (lengths_right c h, (holds_passes _ (m, (w, ranges_hold c h)), tt)))

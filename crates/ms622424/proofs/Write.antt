@@ -7,16 +7,15 @@ use borrow.Author.Tests.{eq-eqb}
 use lib.Dec.{eqb}
 use Rattle.vocabulary.specs.Range.{below, fails}
 use Rattle.vocabulary.specs.Refusal.{lent_length, out_of_range, no_access, no_index, read_mode}
-use Rattle.vocabulary.specs.Outcome.{Outcome, accepting, holding, refusing}
-use Rattle.vocabulary.specs.Component.{red, green, blue, colour_word}
+use Rattle.vocabulary.specs.Outcome.{Outcome, accepting, refusing}
+use Rattle.vocabulary.specs.Component.{red, green, blue}
 use Rattle.vocabulary.specs.Face.{called_by}
 use Rattle.vocabulary.proofs.Range.{holds_passes}
 use Rattle.vocabulary.proofs.Call.{stops, goes_on}
 use Rattle.ms622424.specs.declared.Port.{Port}
-use Rattle.ms622424.specs.declared.Colour.{Colour}
 use Rattle.ms622424.specs.Ms622424.{Chip, ranges, InRange, register_at, selected, stepped, port, with_port}
-use Rattle.ms622424.specs.Ms622424.{complete, Moves, made, room_made, held_while, address_low, address_high}
-use Rattle.ms622424.specs.Ms622424.{palette, taken, written, writable, write_refusals, writes, called}
+use Rattle.ms622424.specs.Ms622424.{complete, Moves, made, room_made, address_low, address_high, palette, taken}
+use Rattle.ms622424.specs.Ms622424.{written, writable, write_refusals, writes, called}
 use Rattle.ms622424.proofs.InRange.{lengths_right, ranges_hold}
 use Rattle.ms622424.proofs.Moves.{room_keeps}
 
@@ -42,30 +41,16 @@ pub address_write_keeps_buffer : (byte : ℕ) (c : Chip)
 unfolding written
 address_write_keeps_buffer byte c = (refl, refl, refl, refl)
 
--- a palette write makes room, holds the last pixel's colour meanwhile, and takes the byte
-pub palette_written : (byte : ℕ) (c : Chip) {n held : ℕ} {room left : Chip} → made n room ≡ room_made c
-    → held ≡ held_while n c.held → left ≡ taken (selected room.port) byte room
-    → holding held (accepting 0 n left) ≡ written palette byte c
+-- a palette write makes room, and takes the byte
+pub palette_written : (byte : ℕ) (c : Chip) {n : ℕ} {room left : Chip} → made n room ≡ room_made c
+    → left ≡ taken (selected room.port) byte room → accepting 0 n left ≡ written palette byte c
 unfolding written
-palette_written byte c {n} {held} {room} {left} e h l =
+palette_written byte c {n} {room} {left} e l =
     let same : room.port ≡ c.port = ap (λ (m : Moves). m.after.port) e
     ∙ room_keeps c Port (λ d. d.port) (λ es m n. refl) in
-    rw h
-    (ap (λ (d : Chip). holding (held_while n c.held) (accepting 0 n d)) l
-    ∙ (ap (λ (p : Port). holding (held_while n c.held) (accepting 0 n (taken (selected p) byte room))) same
-    ∙ ap
-    (λ (m : Moves). holding (held_while m.count c.held)
-    (accepting 0 m.count (taken (selected c.port) byte m.after))) e))
-
--- what a write tells of it: nothing where it moved nothing, else the held colour
-pub held_none : (h : Colour) {n : ℕ} → n ≡ 0 → held_while n h ≡ 0
-unfolding held_while
-held_none h e = rw e
-
-pub held_told : (h : Colour) (n : ℕ) → (n ≡ 0 → ⊥) → held_while n h ≡ colour_word h.red h.green h.blue
-unfolding held_while
-held_told h zero e = absurd (e refl)
-held_told h (suc n) e = refl
+    ap (accepting 0 n) l
+    ∙ (ap (λ (p : Port). accepting 0 n (taken (selected p) byte room)) same
+    ∙ ap (λ (m : Moves). accepting 0 m.count (taken (selected c.port) byte m.after)) e)
 
 unwritable : (select : ℕ) → (select ≡ 0 → ⊥) → (select ≡ 1 → ⊥) → (select ≡ 2 → ⊥) → (select ≡ 3 → ⊥)
     → (select ≡ 7 → ⊥) → writable (register_at select) ≡ false

@@ -8,15 +8,15 @@
 -- parts, and `data` names a type's values. `x ∷ y ∷ []` is a list, `l ++ m` one behind the other; `get_or l i d` is
 -- element i of l, and d where there is none. Numbers are 0, 1, 2 and so on without end; `a / b` is the quotient's
 -- floor, `a % b` the remainder, `2 ^ k` a power, `suc n` is n + 1, `zero` 0. `line n k` is bit k of n, 0 or 1; `pick
--- test a b` is a where the test holds, else b. A call's outcome is `accepting value count chip`, with what it leaves, or
--- `holding colour` of that, where it tells the held colour, too; a refusal's row is `refusal when test`, and rows are tried in document 01's order. `abbrev`, `unfoldable`, `pub`
+-- test a b` is a where the test holds, else b. A call's outcome is `accepting value count chip`, with what it leaves;
+-- a refusal's row is `refusal when test`, and rows are tried in document 01's order. `abbrev`, `unfoldable`, `pub`
 -- and `use` are about proofs and files: read past them. What stands under "Not the chip" says nothing of the
 -- MS622424.
 use Rattle.std.specs.Prelude.{ℕ, zero, suc, ◌+◌, ◌*◌, ◌/◌, ◌%◌, ◌^◌, ◌<◌, min, max, ◌≡◌, Bool, true, false, not, ◌&&◌, List, [], ◌∷◌, ◌++◌, ltb, leb, eqb, length, get_or}
 use Rattle.vocabulary.specs.Choice.{pick}
 use Rattle.vocabulary.specs.Range.{Bound, below, equal, tested, fails}
 use Rattle.vocabulary.specs.Refusal.{Row, ◌when◌, lent_length, out_of_range, no_access, read_mode, still_waiting}
-use Rattle.vocabulary.specs.Outcome.{Outcome, accepting, holding, unreached, not_reached}
+use Rattle.vocabulary.specs.Outcome.{Outcome, accepting, unreached, not_reached}
 use Rattle.vocabulary.specs.Component.{Component, red, green, blue, component_at, part, one_of, put, colour_word}
 use Rattle.vocabulary.specs.Every.{every}
 use Rattle.vocabulary.specs.Line.{line}
@@ -25,7 +25,6 @@ use Rattle.vocabulary.specs.Face.{called_by}
 use Rattle.ms622424.specs.declared.Port.{Port}
 use Rattle.ms622424.specs.declared.Control.{Control}
 use Rattle.ms622424.specs.declared.Ident.{Ident}
-use Rattle.ms622424.specs.declared.Colour.{Colour}
 
 -- ---- The chip: registers, Write FIFO, color map
 
@@ -45,8 +44,6 @@ pub record Chip : Type 0 where
   pub port : Port
   pub control : Control
   pub ident : Ident
-  -- the colour that the last pixel showed at POUT0–POUT23 (request P6)
-  pub held : Colour
   -- THE WAITING COLOURS, the oldest first
   pub waiting : List Entry
   -- 8,192 entries of three bytes, red first
@@ -56,42 +53,34 @@ pub record Chip : Type 0 where
 
 -- ---- Not the chip: a chip with another part, the rest as it was
 
-abbrev pub chip : Port → Control → Ident → Colour → List Entry → List ℕ → Lent → Chip
-chip p d i held waiting map lent = record {
+abbrev pub chip : Port → Control → Ident → List Entry → List ℕ → Lent → Chip
+chip p d i waiting map lent = record {
   port = p;
   control = d;
   ident = i;
-  held = held;
   waiting = waiting;
   map = map;
   lent = lent;
 }
 
 abbrev pub with_port : Port → Chip → Chip
-with_port p c = chip p c.control c.ident c.held c.waiting c.map c.lent
+with_port p c = chip p c.control c.ident c.waiting c.map c.lent
 
 abbrev pub with_control : Control → Chip → Chip
-with_control d c = chip c.port d c.ident c.held c.waiting c.map c.lent
-
-abbrev pub with_held : Colour → Chip → Chip
-with_held held c = chip c.port c.control c.ident held c.waiting c.map c.lent
+with_control d c = chip c.port d c.ident c.waiting c.map c.lent
 
 abbrev pub with_queue : List Entry → List ℕ → Chip → Chip
-with_queue waiting map c = chip c.port c.control c.ident c.held waiting map c.lent
+with_queue waiting map c = chip c.port c.control c.ident waiting map c.lent
 
 abbrev pub with_first : ℕ → Chip → Chip
 with_first n c =
-    chip c.port c.control c.ident c.held c.waiting c.map
-    (record { places = c.lent.places; first = n })
+    chip c.port c.control c.ident c.waiting c.map (record { places = c.lent.places; first = n })
 
 abbrev pub port : ℕ → ℕ → ℕ → ℕ → Port
 port address counter r g = record { address = address; counter = counter; red = r; green = g }
 
 abbrev pub control : ℕ → ℕ → Control
 control command readmode = record { command = command; readmode = readmode }
-
-abbrev pub colour : ℕ → ℕ → ℕ → Colour
-colour r g b = record { red = r; green = g; blue = b }
 
 -- ---- Ranges: what refusals 1 and 9 ask
 
@@ -129,7 +118,7 @@ queue_ranges c =
     tested (every is_in_map c.waiting) ∷
     []
 
--- command bits 5 to 7 are zero; read mode is 0 or 1; the held colour is any
+-- command bits 5 to 7 are zero; read mode is 0 or 1
 abbrev pub ranges : Chip → List Bound
 ranges c =
     below c.port.address entries ∷
@@ -217,12 +206,6 @@ moves slots c = slotted slots c.waiting c
 unfoldable pub room_made : Chip → Moves
 room_made c = pick (eqb (length c.waiting) places) (moves 4 c) (made 0 c)
 
--- "while the device performs these 4 writes, the data at POUT0–POUT23 will be held at the value defined by the last valid
--- pixel address": what a write tells of it, by how many entries it moved
-unfoldable pub held_while : ℕ → Colour → ℕ
-held_while zero held = 0
-held_while (suc n) held = colour_word held.red held.green held.blue
-
 -- ---- Truth Table, R/WB 0: a write
 
 -- which registers can be written
@@ -243,7 +226,7 @@ taken red byte c = let p = c.port in with_port (stepped red (port p.address p.co
 taken green byte c = let p = c.port in with_port (stepped green (port p.address p.counter p.red byte)) c
 taken blue byte c = let p = c.port in with_port (stepped blue p) (complete (completed p byte) c)
 
--- what an accepted write does: value 0, as its count the moves that made room, and the colour held meanwhile
+-- what an accepted write does: value 0, and as its count the moves that made room
 unfoldable pub written : Register → ℕ → Chip → Outcome Chip
 -- the address registers reset the counter; of the high one the low five bits count (note 1)
 written address_low byte c =
@@ -253,9 +236,7 @@ written address_high byte c =
     let p = c.port in
     accepting 0 0 (with_port (port (byte % 2 ^ 5 * 256 + p.address % 256) 0 p.red p.green) c)
 -- a full queue makes room first, whatever the counter
-written palette byte c =
-    let m = room_made c in
-    holding (held_while m.count c.held) (accepting 0 m.count (taken (selected c.port) byte m.after))
+written palette byte c = let m = room_made c in accepting 0 m.count (taken (selected c.port) byte m.after)
 -- command bits 5 to 7 are ignored (ruling)
 written command byte c = accepting 0 0 (with_control (control (byte % 2 ^ 5) c.control.readmode) c)
 written status byte c = not_reached c
@@ -347,8 +328,7 @@ read_refusals select c =
 
 -- ---- CBLANKB: "it is therefore permissible to change data in the palette RAM"
 
--- each slot moves the oldest entry, if one waits; the count is of the moves (read mode or not: ruling). No pixel is
--- shown meanwhile, and no held colour is told
+-- each slot moves the oldest entry, if one waits; the count is of the moves (read mode or not: ruling)
 abbrev pub blanked : ℕ → Chip → Outcome Chip
 blanked slots c = let m = moves slots c in accepting 0 m.count m.after
 
@@ -370,11 +350,11 @@ entry_shown (suc mode) word k = get_or (7424 ∷ 7680 ∷ 7936 ∷ []) mode 0 + 
 unfoldable pub gun_shown : ℕ → ℕ → List ℕ → Component → ℕ
 gun_shown mode word m k = get_or m (3 * entry_shown mode word k + part k) 0
 
--- the value is the colour on the 24 output lines, POUT0–POUT23; it is held from now on, and all else stays
+-- the value is the colour on the 24 output lines, POUT0–POUT23; a pixel changes nothing
 abbrev pub shown : ℕ → ℕ → Chip → Outcome Chip
 shown mode word c =
     let gun = gun_shown mode word c.map in
-    accepting (colour_word (gun red) (gun green) (gun blue)) 0 (with_held (colour (gun red) (gun green) (gun blue)) c)
+    accepting (colour_word (gun red) (gun green) (gun blue)) 0 c
 
 abbrev pub pixel_refusals : ℕ → ℕ → Chip → List Row
 pixel_refusals mode word c =
@@ -396,19 +376,17 @@ signal_refusals s c = (lent_length when short_queue c) ∷ (out_of_range when fa
 
 -- ---- RSB: reset
 
--- "resets command register bits CB2–CB7 and sets bits CB0–CB1"; queue empty, its first position 0; held colour zero;
--- map, revision and board number kept
+-- "resets command register bits CB2–CB7 and sets bits CB0–CB1"; queue empty, its first position 0; map, revision and
+-- board number kept
 abbrev pub fresh : Chip → Chip
-fresh c =
-    chip (port 0 0 0 0) (control 3 0) c.ident (colour 0 0 0) [] c.map
-    (record { places = c.lent.places; first = 0 })
+fresh c = chip (port 0 0 0 0) (control 3 0) c.ident [] c.map (record { places = c.lent.places; first = 0 })
 
 -- a reset is lent no map, and reads revision and board number alone
 abbrev pub reset_refusals : Chip → List Row
 reset_refusals c = (lent_length when short_queue c) ∷ (out_of_range when fails (ident_ranges c.ident)) ∷ []
 
--- ---- The places of a look (request P5): the registers, how many colours wait, the held colour, the queue's first
--- position, and each byte of the map as stored
+-- ---- The places of a look (request P5): the registers, how many colours wait, the queue's first position, and each
+-- byte of the map as stored
 
 abbrev pub look_places : Chip → List Block
 look_places c =
@@ -421,9 +399,6 @@ look_places c =
     (0x6 has c.ident.revision) ∷
     (0x7 has c.ident.board) ∷
     (0x8 has length c.waiting) ∷
-    (0x9 has c.held.red) ∷
-    (0xA has c.held.green) ∷
-    (0xB has c.held.blue) ∷
     (0xC has c.lent.first) ∷
     (0x10000 holds c.map) ∷
     []

@@ -4,9 +4,9 @@
 // Source document 004 and document 01, "Chip B", decide; specs/Ms622424.antt says it, in 004's order, of the chip as
 // 004 describes it: registers, the waiting colours, the colour map. How a caller keeps a chip is said apart, in
 // ms622424_places. Above stand what the calls share, ms622424_port and _range, the lent places, ms622424_queue,
-// _queue_range, _gather, _store and _transfer, the parts of a write (ms622424_room, _take, _palette, _set), of
+// _queue_range, _gather, _clear, _store and _transfer, the parts of a write (ms622424_room, _take, _palette, _set), of
 // a read (ms622424_status, _map_read, _registers) and of a pixel (ms622424_entry), and a crate for each call. Not
-// modelled: clocks, bus timing and the pipeline; the output while the processor reads the map, which 004 holds too.
+// modelled: clocks, bus timing and the pipeline; the output that is held while the processor has the map.
 
 // What data accesses move: the address, the RGB counter, and the Color Buffer Register.
 #[repr(C)]
@@ -32,13 +32,4 @@ pub struct Control {
 pub struct Ident {
     pub revision: u8,
     pub board: u8,
-}
-
-// A colour as the output lines show it.
-#[repr(C)]
-#[derive(Drop)]
-pub struct Colour {
-    pub red: u8,
-    pub green: u8,
-    pub blue: u8,
 }

@@ -1,7 +1,7 @@
 // The MS622424's blanking period.
 //
 // Source document 004, "Write FIFO", document 01, "Chip B", and document 02, P7, decide; ms622424's
-// specs/Ms622424.antt says it (`blanked`, `blank_refusals`). Not modelled: as there.
+// specs/Ms622424.antt says it (`blanked`, `blank_refusals`). Not modelled: what the output shows during a transfer.
 ghost use Rattle.ms622424.specs.Ms622424.{blanks, called};
 ghost use Rattle.ms622424_places.specs.Places.{handed, outcome, Does};
 

@@ -1,7 +1,7 @@
 // The MS622424 (chip B): a look, the number that stands at a place. It moves nothing, and answers from the map as
 // stored, whatever waits, in read mode or not.
 //
-// Requests P5, P6 and P7 decide; the places and the rule are `look_places` and `called (looks ..)` of ms622424's
+// Requests P5 and P7 decide; the places and the rule are `look_places` and `called (looks ..)` of ms622424's
 // specs/Ms622424.antt. Not modelled: as there.
 ghost use Rattle.std.specs.Prelude.{◌≤◌, ◌≡◌, length};
 ghost use Rattle.vocabulary.specs.Look.{looking};
@@ -15,7 +15,8 @@ use vocabulary::Looked;
 
 // Past the state's places: the map's bytes from 0x10000 on.
 fn map_look(place: u32, map: &[u8]) -> Looked
-    requires { (13 ≤ place) × (length map.now ≡ 24576) }
+    requires le_place { (9 ≤ place) × (place ≡ 12 → ⊥) }
+    requires map_len { length map.now ≡ 24576 }
     ensures { (c : Chip) → InRange c → c.map ≡ map.now → looking result c ≡ called (looks place) c }
 {
     if place < 0x10000 {
@@ -27,7 +28,7 @@ fn map_look(place: u32, map: &[u8]) -> Looked
     refused(3)
 }
 
-// A look at a chip in range: places 0 to 12 are of the state, how many wait and the first position among them.
+// A look at a chip in range: places 0 to 8 are of the state, and how many wait; 12 is the first position.
 fn look_at(s: State, place: u32, queue: &[u64], map: &[u8]) -> Looked
     requires { InRange (view (handed s queue.now map.now)) }
     ensures { looking result (view (handed s queue.now map.now))
@@ -43,9 +44,6 @@ fn look_at(s: State, place: u32, queue: &[u64], map: &[u8]) -> Looked
         6 => seen_byte(s.ident.revision),
         7 => seen_byte(s.ident.board),
         8 => seen_byte(s.fifo.waiting),
-        9 => seen_byte(s.held.red),
-        10 => seen_byte(s.held.green),
-        11 => seen_byte(s.held.blue),
         12 => seen_byte(s.fifo.first),
         _ => map_look(place, map),
     }

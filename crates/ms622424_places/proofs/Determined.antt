@@ -9,7 +9,6 @@ use Rattle.vocabulary.specs.Outcome.{Outcome}
 use Rattle.ms622424.specs.declared.Port.{Port}
 use Rattle.ms622424.specs.declared.Control.{Control}
 use Rattle.ms622424.specs.declared.Ident.{Ident}
-use Rattle.ms622424.specs.declared.Colour.{Colour}
 use Rattle.ms622424.specs.Ms622424.{Chip, Call, called}
 use Rattle.ms622424_places.specs.declared.Fifo.{Fifo}
 use Rattle.ms622424_places.specs.declared.State.{State}
@@ -34,11 +33,10 @@ unfolding colours
 waiting_are f q = sym (packed_entries (ringed f.first f.waiting q))
 
 -- equal parts
-same_state : {p p' : Port} {d d' : Control} {i i' : Ident} {h h' : Colour} {n n' w w' : ℕ} → p ≡ p' → d ≡ d' → i ≡ i'
-    → h ≡ h' → n ≡ n' → w ≡ w'
-    → ◌≡◌ {A = State} (record { port = p; control = d; ident = i; fifo = fifo n w; held = h })
-    (record { port = p'; control = d'; ident = i'; fifo = fifo n' w'; held = h' })
-same_state a b c d e f = cc
+same_state : {p p' : Port} {d d' : Control} {i i' : Ident} {n n' w w' : ℕ} → p ≡ p' → d ≡ d' → i ≡ i' → n ≡ n' → w ≡ w'
+    → ◌≡◌ {A = State} (record { port = p; control = d; ident = i; fifo = fifo n w })
+    (record { port = p'; control = d'; ident = i'; fifo = fifo n' w' })
+same_state a b c d e = cc
 
 -- ONE CHIP is kept in one way, but for the places that no entry waits in
 pub kept_once : (h g : Handed) → view h ≡ view g → SameInUse h g
@@ -51,7 +49,7 @@ kept_once h g e =
     let q = waiting_are f h.queue ∙ (ap (map packed) es ∙ sym (waiting_are j g.queue)) in
     record {
       state = same_state (ap (λ (c : Chip). c.port) e) (ap (λ (c : Chip). c.control) e)
-          (ap (λ (c : Chip). c.ident) e) (ap (λ (c : Chip). c.held) e) n w;
+          (ap (λ (c : Chip). c.ident) e) n w;
       map = ap (λ (c : Chip). c.map) e;
       places = ap (λ (c : Chip). c.lent.places) e;
       waiting = q ∙ rw (n, w) refl;
@@ -63,13 +61,12 @@ module _ (k : Call) (h : Handed) (o p : Outcome Handed) (a : Does h o (called k)
 
   pub determined :
       (o.refusal ≡ p.refusal) × (o.value ≡ p.value) × (o.count ≡ p.count) × (o.line ≡ p.line)
-      × (o.held ≡ p.held) × SameInUse o.left p.left
+      × SameInUse o.left p.left
   determined = (
     ap (λ (x : Outcome Chip). x.refusal) same,
     ap (λ (x : Outcome Chip). x.value) same,
     ap (λ (x : Outcome Chip). x.count) same,
     ap (λ (x : Outcome Chip). x.line) same,
-    ap (λ (x : Outcome Chip). x.held) same,
     kept_once o.left p.left (ap (λ (x : Outcome Chip). x.left) same),
   )
 

@@ -4,17 +4,12 @@ use mathlib.Core.Path.{◌≡◌, refl, ap, ◌∙◌}
 use mathlib.Core.List.{List}
 use native.Mathlib.Omega.{arith}
 use lib.ListN.{length}
-use Rattle.vocabulary.specs.Outcome.{accepting, holding, refusing}
-use Rattle.vocabulary.specs.Component.{colour_word}
-use Rattle.ms622424.specs.declared.Colour.{Colour}
-use Rattle.ms622424.specs.Ms622424.{Chip, InRange, Moves, made, room_made, port, control, colour, fresh, Call}
-use Rattle.ms622424.specs.Ms622424.{called}
+use Rattle.vocabulary.specs.Outcome.{accepting, refusing}
+use Rattle.ms622424.specs.Ms622424.{Chip, InRange, Moves, made, room_made, port, control, fresh, Call, called}
 use Rattle.ms622424.proofs.Moves.{room_keeps, room_first, room_space}
 use Rattle.ms622424_places.specs.declared.Answer.{Answer}
-use Rattle.ms622424_places.specs.declared.Shown.{Shown}
 use Rattle.ms622424_places.specs.declared.State.{State}
-use Rattle.ms622424_places.specs.Places.{ringed, colours, handed, view, outcome, refuse, accept_held, accept}
-use Rattle.ms622424_places.specs.Places.{showing, show_none, show, seen, Does}
+use Rattle.ms622424_places.specs.Places.{ringed, colours, handed, view, outcome, refuse, accept, seen, Does}
 use Rattle.ms622424_places.proofs.Places.{fifo, how_many}
 
 module _ (s : State) (q m : List ℕ) (a : Answer) (k : Call) where
@@ -28,39 +23,13 @@ module _ (s : State) (q m : List ℕ) (a : Answer) (k : Call) where
       }
 
   -- an accepted call does what it does
-  pub accepts_held : (p n : List ℕ) {v w : ℕ} {h : Colour} {t : State} → a ≡ accept_held v w h t
-      → holding (colour_word h.red h.green h.blue) (accepting v w (view (handed t p n)))
-      ≡ called k (view (handed s q m))
-      → Does (handed s q m) (outcome a p n) (called k)
-  accepts_held p n e r =
-      record {
-        chip = ap (λ (b : Answer). seen (outcome b p n)) e ∙ r;
-        keeps = λ z. absurd (z (ap (λ (b : Answer). b.refusal) e));
-      }
-
-  -- with no held colour to tell
   pub accepts : (p n : List ℕ) {v w : ℕ} {t : State} → a ≡ accept v w t
       → accepting v w (view (handed t p n)) ≡ called k (view (handed s q m))
       → Does (handed s q m) (outcome a p n) (called k)
-  accepts p n e r = accepts_held p n e r
-
--- the same of a pixel's answer
-module _ (s : State) (q m : List ℕ) (a : Shown) (k : Call) where
-  pub shows_none : {n : ℕ} → a ≡ show_none n s → refusing n 0 (view (handed s q m)) ≡ called k (view (handed s q m))
-      → Does (handed s q m) (showing a q m) (called k)
-  shows_none e r =
+  accepts p n e r =
       record {
-        chip = ap (λ (b : Shown). seen (showing b q m)) e ∙ r;
-        keeps = λ z. ap (λ (b : Shown). handed b.state q m) e;
-      }
-
-  pub shows : {r g b : ℕ} {t : State} → a ≡ show r g b t
-      → accepting (colour_word r g b) 0 (view (handed t q m)) ≡ called k (view (handed s q m))
-      → Does (handed s q m) (showing a q m) (called k)
-  shows e r =
-      record {
-        chip = ap (λ (b : Shown). seen (showing b q m)) e ∙ r;
-        keeps = λ z. absurd (z (ap (λ (b : Shown). b.refusal) e));
+        chip = ap (λ (b : Answer). seen (outcome b p n)) e ∙ r;
+        keeps = λ z. absurd (z (ap (λ (b : Answer). b.refusal) e));
       }
 
 -- with room made, the queue has its places and one is free
@@ -81,7 +50,6 @@ pub fresh_chip : (s : State) (q m : List ℕ) (first waiting : ℕ) → first �
       control = control 3 0;
       ident = s.ident;
       fifo = fifo first waiting;
-      held = colour 0 0 0;
     }) q m) ≡ fresh (view (handed s q m))
 unfolding colours ringed
 fresh_chip s q m first waiting e f = rw (e, f) refl

@@ -1,14 +1,11 @@
 -- HOW 64 PLACES KEEP THE WAITING COLOURS, which chip a state and its lent tables are, and what a call promises. No
 -- other file of definitions knows a place of the queue.
 use Rattle.std.specs.Prelude.{ℕ, zero, suc, ◌+◌, ◌*◌, ◌/◌, ◌%◌, ◌≡◌, List, [], ◌∷◌, map, length, get_or}
-use Rattle.vocabulary.specs.Outcome.{Outcome, answering, leaving}
-use Rattle.vocabulary.specs.Component.{colour_word}
-use Rattle.ms622424.specs.declared.Colour.{Colour}
-use Rattle.ms622424.specs.Ms622424.{Chip, Entry, colour}
+use Rattle.vocabulary.specs.Outcome.{Outcome}
+use Rattle.ms622424.specs.Ms622424.{Chip, Entry}
 use Rattle.ms622424_places.specs.declared.Fifo.{Fifo}
 use Rattle.ms622424_places.specs.declared.State.{State}
 use Rattle.ms622424_places.specs.declared.Answer.{Answer}
-use Rattle.ms622424_places.specs.declared.Shown.{Shown}
 
 -- ---- The queue's places, a ring (request P7): the oldest entry at the first position, each younger one a place
 -- further, place 0 behind place 63; the places that no entry waits in are not read
@@ -43,14 +40,13 @@ abbrev pub handed : State → List ℕ → List ℕ → Handed
 handed s queue map = record { state = s; queue = queue; map = map }
 
 abbrev pub with_fifo : Fifo → State → State
-with_fifo f s = record { port = s.port; control = s.control; ident = s.ident; fifo = f; held = s.held }
+with_fifo f s = record { port = s.port; control = s.control; ident = s.ident; fifo = f }
 
 abbrev pub view : Handed → Chip
 view h = record {
   port = h.state.port;
   control = h.state.control;
   ident = h.state.ident;
-  held = h.state.held;
   waiting = colours h.state.fifo h.queue;
   map = h.map;
   lent = record { places = length h.queue; first = h.state.fifo.first };
@@ -58,40 +54,25 @@ view h = record {
 
 -- ---- What a call promises
 
--- an answer and what is handed back with it, as an outcome; a pixel's answer; an answer that refuses, and one that
--- accepts, with the colour held meanwhile or with none
+-- an answer and what is handed back with it, as an outcome; an answer that refuses, and one that accepts
 abbrev pub outcome : Answer → List ℕ → List ℕ → Outcome Handed
 outcome a queue map = record {
   refusal = a.refusal;
   value = a.value;
   count = a.count;
   line = 0;
-  held = colour_word a.held.red a.held.green a.held.blue;
   left = handed a.state queue map;
 }
 
-abbrev pub showing : Shown → List ℕ → List ℕ → Outcome Handed
-showing a queue map =
-    answering a.refusal (colour_word a.red a.green a.blue) (handed a.state queue map)
-
-abbrev pub show_none : ℕ → State → Shown
-show_none n s = record { refusal = n; red = 0; green = 0; blue = 0; state = s }
-
-abbrev pub show : ℕ → ℕ → ℕ → State → Shown
-show r g b s = record { refusal = 0; red = r; green = g; blue = b; state = s }
-
 abbrev pub refuse : ℕ → State → Answer
-refuse n s = record { refusal = n; value = 0; count = 0; held = colour 0 0 0; state = s }
-
-abbrev pub accept_held : ℕ → ℕ → Colour → State → Answer
-accept_held value count held s = record { refusal = 0; value = value; count = count; held = held; state = s }
+refuse n s = record { refusal = n; value = 0; count = 0; state = s }
 
 abbrev pub accept : ℕ → ℕ → State → Answer
-accept value count s = accept_held value count (colour 0 0 0) s
+accept value count s = record { refusal = 0; value = value; count = count; state = s }
 
 -- the outcome for the chip
 abbrev pub seen : Outcome Handed → Outcome Chip
-seen o = leaving (view o.left) o
+seen o = record { refusal = o.refusal; value = o.value; count = o.count; line = o.line; left = view o.left }
 
 -- THE PROMISE: the chip does what its definition says, and a refusal hands back every byte as given
 pub record Does (given : Handed) (o : Outcome Handed) (call : Chip → Outcome Chip) : Type 0 where

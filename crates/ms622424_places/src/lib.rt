@@ -3,7 +3,7 @@
 // specs/Places.antt is the one file that says which chip they are, and what a call promises of them; document 01,
 // "Chip B", and document 02, P7, decide. The places are a ring, one number an entry: the oldest is at the first
 // position, and what unused places hold is nobody's concern. Not modelled: as in ms622424.
-use ms622424::{Colour, Control, Ident, Port};
+use ms622424::{Control, Ident, Port};
 
 // Which place of the lent queue is first, and how many entries wait from there on.
 #[repr(C)]
@@ -13,7 +13,7 @@ pub struct Fifo {
     pub waiting: u8,
 }
 
-// The registers, how the lent queue stands, and the colour of the last pixel.
+// The registers, and how the lent queue stands.
 #[repr(C)]
 #[derive(Drop)]
 pub struct State {
@@ -21,29 +21,15 @@ pub struct State {
     pub control: Control,
     pub ident: Ident,
     pub fifo: Fifo,
-    pub held: Colour,
 }
 
-// What a call answers, with the state after it: the refusal, 0 for none, the value read, the entries moved, and the
-// colour that a forced transfer held meanwhile.
+// What a call answers, with the state after it: the refusal, 0 for none, the value read, the entries moved.
 #[repr(C)]
 #[derive(Drop)]
 pub struct Answer {
     pub refusal: u8,
     pub value: u8,
     pub count: u16,
-    pub held: Colour,
-    pub state: State,
-}
-
-// What a pixel answers, with the state after it: the refusal, 0 for none, and the colour.
-#[repr(C)]
-#[derive(Drop)]
-pub struct Shown {
-    pub refusal: u8,
-    pub red: u8,
-    pub green: u8,
-    pub blue: u8,
     pub state: State,
 }
 

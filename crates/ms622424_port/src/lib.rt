@@ -7,41 +7,29 @@ ghost use Rattle.std.specs.Prelude.{◌≡◌};
 ghost use Rattle.ms622424.specs.Ms622424.{selected, stepped};
 ghost use Rattle.ms622424_places.specs.Places.{accept, refuse};
 
-use ms622424::{Colour, Port};
+use ms622424::Port;
 use ms622424_places::{Answer, State};
 
-// A refusal: the state as given, value, count and held colour 0.
+// A refusal: the state as given, value and count 0.
 pub fn refused(refusal: u8, s: State) -> Answer
     ensures { result ≡ refuse refusal s }
 {
-    let black = Colour {
-        red: 0,
-        green: 0,
-        blue: 0,
-    };
     Answer {
         refusal: refusal,
         value: 0,
         count: 0,
-        held: black,
         state: s,
     }
 }
 
-// An accepted call that has no held colour to tell: what it answers, and the state after it.
+// An accepted call: what it answers, and the state after it.
 pub fn accepted(value: u8, count: u8, s: State) -> Answer
     ensures { result ≡ accept value count s }
 {
-    let black = Colour {
-        red: 0,
-        green: 0,
-        blue: 0,
-    };
     Answer {
         refusal: 0,
         value: value,
         count: count as u16,
-        held: black,
         state: s,
     }
 }

@@ -1,12 +1,12 @@
 // The MS622424's reset.
 //
-// Source document 004, RSB, document 01, "Chip B", and document 02, P6, decide; ms622424's specs/Ms622424.antt says it (`fresh`,
+// Source document 004, RSB, and document 01, "Chip B", decide; ms622424's specs/Ms622424.antt says it (`fresh`,
 // `reset_refusals`). Not modelled: as there.
 ghost use Rattle.std.specs.Prelude.{List, ℕ};
 ghost use Rattle.ms622424.specs.Ms622424.{resets, called};
 ghost use Rattle.ms622424_places.specs.Places.{handed, outcome, Does};
 
-use ms622424::{Colour, Control, Port};
+use ms622424::{Control, Port};
 use ms622424_places::{Answer, Fifo, State};
 use ms622424_port::{accepted, refused};
 
@@ -40,11 +40,6 @@ pub extern "C" fn zk_b_reset(s: State, queue: &[u64]) -> Answer
         readmode: 0,
     };
     let i = s.ident;
-    let black = Colour {
-        red: 0,
-        green: 0,
-        blue: 0,
-    };
     accepted(
         0,
         0,
@@ -53,7 +48,6 @@ pub extern "C" fn zk_b_reset(s: State, queue: &[u64]) -> Answer
             control: d,
             ident: i,
             fifo: f,
-            held: black,
         },
     )
 }

@@ -1,7 +1,7 @@
 // The MS622424's room for the incoming data: a full queue moves four entries into the map.
 //
 // Source document 004, "Write FIFO", and document 01, "Chip B", decide; ms622424's specs/Ms622424.antt says it
-// (`room_made`). Not modelled: as there; what is told of the held colour stands in ms622424_palette.
+// (`room_made`). Not modelled: what the output shows during a transfer.
 ghost use Rattle.std.specs.Prelude.{◌≡◌};
 ghost use Rattle.ms622424.specs.Ms622424.{InRange, made, room_made};
 ghost use Rattle.ms622424_places.specs.Places.{handed, view};

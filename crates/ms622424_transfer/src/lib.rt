@@ -1,8 +1,8 @@
 // The MS622424's transfer: the oldest waiting entries move into the map, and the first position steps past them.
 //
 // Source document 004, "Write FIFO", document 01, "Chip B", and document 02, P7, decide; ms622424's
-// specs/Ms622424.antt says it (`moves`), and ms622424_places how the places keep it. Not modelled: as in
-// ms622424; what is told of the held colour stands in ms622424_palette.
+// specs/Ms622424.antt says it (`moves`), and ms622424_places how the places keep it. Not modelled: what the output
+// shows during a transfer.
 ghost use Rattle.std.specs.Prelude.{◌≡◌};
 ghost use Rattle.ms622424.specs.Ms622424.{InRange, made, moves};
 ghost use Rattle.ms622424_places.specs.Places.{handed, view};

@@ -1,7 +1,7 @@
 // The MS622424's write at the MPU port.
 //
-// Source document 004, "MPU Interface" and "Write FIFO", document 01, "Chip B", and document 02, P6, decide;
-// ms622424's specs/Ms622424.antt says it (`written`, `write_refusals`). Not modelled: as there.
+// Source document 004, "MPU Interface" and "Write FIFO", and document 01, "Chip B", decide; ms622424's
+// specs/Ms622424.antt says it (`written`, `write_refusals`). Not modelled: what the output shows during a transfer.
 ghost use Rattle.ms622424.specs.Ms622424.{writes, called};
 ghost use Rattle.ms622424_places.specs.Places.{handed, outcome, Does};
 

@@ -13,27 +13,27 @@ pub fn flush(out: &[u8], waiting: usize) -> bool {
     false
 }
 
-// Room for 24 bytes, made by printing what waits where there is none: how many wait then.
+// Room for 16 bytes, made by printing what waits where there is none: how many wait then.
 fn room(out: &[u8; 65536], waiting: usize) -> usize
-    ensures { result ≤ 65512 }
+    ensures { result ≤ 65520 }
 {
-    if waiting <= 65512 {
+    if waiting <= 65520 {
         return waiting;
     }
     flush(out, waiting);
     0
 }
 
-// The first `len` of a text's bytes behind those that wait: how many wait then. All 24 are put, in one piece; what
+// The first `len` of a text's bytes behind those that wait: how many wait then. All 16 are put, in one piece; what
 // comes next is put over those that don't count.
-pub fn say_text(bytes: [u8; 24], len: usize, out: &mut [u8; 65536], waiting: usize) -> usize {
+pub fn say_text(bytes: [u8; 16], len: usize, out: &mut [u8; 65536], waiting: usize) -> usize {
     let at = room(out, waiting);
     let mut i: usize = 0;
-    while i < 24 {
+    while i < 16 {
         out[at + i] = bytes[i];
         i += 1;
     }
-    if len <= 24 {
+    if len <= 16 {
         return at + len;
     }
     at

@@ -17,7 +17,7 @@ use Rattle.vocabulary.specs.Choice.{pick}
 use Rattle.vocabulary.specs.Line.{line}
 use Rattle.vocabulary.specs.Range.{Bound, below, equal, within, meets, fails}
 use Rattle.vocabulary.specs.Refusal.{Row, ◌when◌, lent_length, out_of_range, no_access, no_index, refusal_of, standing}
-use Rattle.vocabulary.specs.Outcome.{Outcome, accepting, answering, unreached}
+use Rattle.vocabulary.specs.Outcome.{Outcome, accepting, unreached}
 use Rattle.vocabulary.specs.Component.{Component, red, green, blue, one_of, put}
 use Rattle.vocabulary.specs.Look.{Block, ◌has◌, ◌holds◌, found, look_refusals, looked}
 use Rattle.vocabulary.specs.Face.{called_by}
@@ -407,4 +407,4 @@ abbrev pub refuse : ℕ → State → Answer
 refuse n s = record { refusal = n; value = 0; state = s }
 
 abbrev pub outcome : Answer → List ℕ → Outcome Chip
-outcome a t = answering a.refusal a.value (chip a.state t)
+outcome a t = record { refusal = a.refusal; value = a.value; count = 0; line = 0; left = chip a.state t }

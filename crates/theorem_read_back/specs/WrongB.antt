@@ -1,7 +1,7 @@
 -- Wrong chips in place of B, for the reading back to refuse.
 use Rattle.std.specs.Prelude.{ℕ, Bool, true, false, List, map, eqb, take}
 use Rattle.vocabulary.specs.Choice.{pick}
-use Rattle.vocabulary.specs.Outcome.{Outcome, leaving}
+use Rattle.vocabulary.specs.Outcome.{Outcome}
 use Rattle.ms622424.specs.Ms622424.{Chip, Entry, with_queue, all_stored, called}
 use Rattle.ms622424.specs.Ms622424.{Call, writes, reads, blanks, pixels, signals, resets, looks}
 
@@ -21,7 +21,13 @@ spoilt leaves (writes select byte) c = called (writes select byte) c
 spoilt leaves (reads select) c = called (reads select) c
 spoilt leaves (blanks slots) c =
     let o = called (blanks slots) c in
-    leaving (with_queue o.left.waiting (pick (eqb o.refusal 0) (leaves slots c) c.map) o.left) o
+    record {
+      refusal = o.refusal;
+      value = o.value;
+      count = o.count;
+      line = o.line;
+      left = with_queue o.left.waiting (pick (eqb o.refusal 0) (leaves slots c) c.map) o.left;
+    }
 spoilt leaves (pixels mode word) c = called (pixels mode word) c
 spoilt leaves (signals s) c = called (signals s) c
 spoilt leaves resets c = called resets c

@@ -11,7 +11,7 @@ use Rattle.vocabulary.specs.Choice.{pick}
 use Rattle.vocabulary.specs.Component.{Component, red, green, blue}
 use Rattle.vocabulary.specs.Face.{called_by}
 use Rattle.vocabulary.specs.Look.{Found, found, looked}
-use Rattle.vocabulary.specs.Outcome.{Outcome, accepting, leaving, answered, answered_at}
+use Rattle.vocabulary.specs.Outcome.{Outcome, accepting, answered, answered_at}
 use Rattle.vocabulary.specs.Range.{within, meets, fails}
 use Rattle.vocabulary.specs.Refusal.{refusal_of}
 use Rattle.vocabulary.specs.Reply.{telling}
@@ -32,7 +32,13 @@ use Rattle.theorem_ring.specs.Ring.{is_first_look, Turned, AsTurned}
 
 -- an outcome that differs at most in the first position that it leaves
 abbrev refirst : ℕ → Outcome Chip → Outcome Chip
-refirst n o = leaving (with_first n o.left) o
+refirst n o = record {
+  refusal = o.refusal;
+  value = o.value;
+  count = o.count;
+  line = o.line;
+  left = with_first n o.left;
+}
 
 record ButFirst (o p : Outcome Chip) : Type 0 where
   pub first : ℕ

@@ -6,7 +6,7 @@ use Rattle.vocabulary.specs.Choice.{pick}
 use Rattle.vocabulary.specs.Component.{Component, red, green, blue}
 use Rattle.vocabulary.specs.Every.{every}
 use Rattle.vocabulary.specs.Face.{called_by}
-use Rattle.vocabulary.specs.Outcome.{Outcome, leaving}
+use Rattle.vocabulary.specs.Outcome.{Outcome}
 use Rattle.vocabulary.specs.Refusal.{Row}
 use Rattle.ms622424.specs.declared.Port.{Port}
 use Rattle.ms622424.specs.declared.Control.{Control}
@@ -93,7 +93,13 @@ old_refusals k o = refusals k (seen o)
 abbrev pub old_does : Call → Old → Outcome Old
 old_does k o =
     let r = does k (seen o) in
-    leaving (old r.left (queue_after k o)) r
+    record {
+      refusal = r.refusal;
+      value = r.value;
+      count = r.count;
+      line = r.line;
+      left = old r.left (queue_after k o);
+    }
 
 abbrev pub old_called : Call → Old → Outcome Old
 old_called k o = called_by old_refusals old_does k o

@@ -4,7 +4,7 @@ use Rattle.std.specs.Prelude.{ℕ, ◌-◌, Bool, true, false, List, [], ◌∷�
 use Rattle.vocabulary.specs.Choice.{pick}
 use Rattle.vocabulary.specs.Range.{within, meets}
 use Rattle.vocabulary.specs.Refusal.{Row, ◌when◌, lent_length, out_of_range, no_access}
-use Rattle.vocabulary.specs.Outcome.{Outcome, accepting, answering}
+use Rattle.vocabulary.specs.Outcome.{Outcome, accepting}
 use Rattle.vocabulary.specs.declared.Looked.{Looked}
 
 -- a row of the table: numbers that stand at the places from one on; or one number at one place
@@ -50,7 +50,7 @@ looked f c = accepting (number_of f) 0 c
 
 -- what the code answers, as an outcome of the chip that it was asked of: it hands no chip back
 abbrev pub looking : {C : Type 0} → Looked → C → Outcome C
-looking a c = answering a.refusal a.value c
+looking a c = record { refusal = a.refusal; value = a.value; count = 0; line = 0; left = c }
 
 -- the answer with a number, and one that refuses
 abbrev pub seen : ℕ → Looked

@@ -1,12 +1,18 @@
 -- A pixel's answer: its refusal and three bytes. It hands no chip back, since a pixel changes none.
 use Rattle.std.specs.Prelude.{ℕ}
-use Rattle.vocabulary.specs.Outcome.{Outcome, answering}
+use Rattle.vocabulary.specs.Outcome.{Outcome}
 use Rattle.vocabulary.specs.Component.{colour_word}
 use Rattle.vocabulary.specs.declared.Shown.{Shown}
 
 -- as an outcome of the chip that it was asked of; the bytes are below 256 by their types, so that the value tells each
 abbrev pub showing : {C : Type 0} → Shown → C → Outcome C
-showing a c = answering a.refusal (colour_word a.red a.green a.blue) c
+showing a c = record {
+  refusal = a.refusal;
+  value = colour_word a.red a.green a.blue;
+  count = 0;
+  line = 0;
+  left = c;
+}
 
 -- a refused pixel's answer
 abbrev pub dark : ℕ → Shown

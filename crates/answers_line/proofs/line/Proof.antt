@@ -3,13 +3,11 @@ use borrow.Author.Rules.{rules}
 use Rattle.answers_line.proofs.line.Statement.{statement}
 use Rattle.answers_line.proofs.line.Tie as tie
 
-ruleset arms = (says_news, rules)
-
 pub line_spec : {M : Type 1} → statement M
 line_spec =
     tie.close
     (tie.spec (λ c. search rules) (λ c. search rules) (λ c. search rules) (λ c. search rules) (λ c. search rules)
     (λ c. search rules) (λ c. search rules) (λ c. search rules) (λ c. search rules) (λ c. search rules)
-    (λ c. search rules) (λ c. search rules) (λ c. search rules) (λ c. search rules) (λ c. search rules)
-    (λ c. search rules) (λ c. search arms) (λ c. search arms) (λ c. search arms) (λ c. search arms) (λ c. search arms)
-    (λ c. search arms) (λ c. search arms))
+    (λ c. search rules) (λ c. search rules) (λ c. search rules) (λ c. search rules) (λ c. search (says_news, rules))
+    (λ c. search (says_news, rules)) (λ c. search (says_news, rules)) (λ c. search (says_news, rules))
+    (λ c. search (says_news, rules)) (λ c. search (says_news, rules)))

@@ -10,7 +10,7 @@ use Rattle.ms622424_take.proofs.take_byte.Tie as tie
 returns-3 : tie.Need-returns-3
 unfolding taken stepped
 returns-3 c m =
-    let put = c.before.before.before.before.before.before.before in
+    let put = c.before.before.before.before.before.before in
     let rest = put.before.before.match.rest in
     takes_blue _ _ rest.0.1 rest.1 (put.put.ensures m)
 
@@ -19,5 +19,5 @@ unfolding taken stepped
 take_byte_spec =
     tie.close
     (tie.spec (λ c κs. search rules) (λ c. search rules)
-    (λ c m. takes_red _ _ c.before.before.before.before.match.keys1)
-    (λ c m. takes_green _ _ c.before.before.before.before.match.keys2) (λ c. search rules) returns-3)
+    (λ c m. takes_red _ _ c.before.before.before.match.keys1)
+    (λ c m. takes_green _ _ c.before.before.before.match.keys2) (λ c. search rules) returns-3)

@@ -26,7 +26,7 @@ store-oldest-requires c κs =
 
 returns : tie.Need-returns
 returns c =
-    let stores = c.before.before.before.before.before.before in
+    let stores = c.before.before.before.before.before in
     let start = stores.before.before.before.before.before.before in
     let a = start.args in
     transferred a.slots _ a.s a.queue.now a.map.now _ _ _ start.requires
