@@ -3,6 +3,8 @@
 // The replay's answer lines decide; specs/Answers.antt says each. No line has more than 14 bytes with its LF, so that
 // a text of 16 holds each. Digits are written in answers_digits, a line with a number in answers_line; answers_told
 // chooses between a refusal and what a call tells. Not modelled: a sheet's 265 lines.
+#![tactic(auto)]
+
 ghost use Rattle.std.specs.Prelude.{[]};
 ghost use Rattle.answers.specs.Answers.{Says, ok_text, bad_text};
 

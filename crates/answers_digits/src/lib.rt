@@ -2,6 +2,8 @@
 //
 // The replay's answer lines decide; `Adds` and `decimal` of answers' specs/Answers.antt say what is written, where a
 // text has room. Not modelled: a number over 16 bits.
+#![tactic(auto)]
+
 ghost use Rattle.std.specs.Prelude.{◌≡◌, [], ◌∷◌, ◌+◌, ◌%◌};
 ghost use Rattle.hex_digits.specs.Hex.{hex as hexText};
 ghost use Rattle.answers.specs.Answers.{Adds, decimal as decimalText};

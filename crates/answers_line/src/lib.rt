@@ -2,6 +2,8 @@
 //
 // The replay's answer lines decide; `news_text` and `refused_text` of answers' specs/Answers.antt say each, and the two
 // calls equal them for any number that the types hold. Not modelled: a sheet's 265 lines.
+#![tactic(auto)]
+
 ghost use Rattle.std.specs.Prelude.{[], ◌∷◌, ◌++◌, ◌+◌, ◌<◌, take};
 ghost use Rattle.hex_digits.specs.Hex.{hex as hexText};
 ghost use Rattle.answers.specs.Answers.{Says, decimal as decimalText, colour_text, refused_text, news_text};

@@ -2,6 +2,8 @@
 //
 // The replay's answer lines decide; `told` of answers' specs/Answers.antt says which, and the two calls equal it for
 // any number that the types hold. Not modelled: a sheet's 265 lines.
+#![tactic(auto)]
+
 ghost use Rattle.answers.specs.Answers.{Says, ok_text, news_text, told as toldText};
 
 use answers::{News, Text};

@@ -5,6 +5,8 @@
 // starts (`started`). The code stands in crates of its own: board_start, board_call, board_sheet and, of any line,
 // board_answer. The tables are lent, and so is the page, the bytes that a sheet is written on. Not modelled: a log's
 // bytes and lines.
+#![tactic(auto)]
+
 use answers::Text;
 use hd153108::State as AState;
 use port_log::Chip;

@@ -2,6 +2,8 @@
 //
 // The replay's description decides; `answer` equals `board_turn` of board's specs/Board.antt for any board, line,
 // tables and page. The tables and the page are lent. Not modelled: as there.
+#![tactic(auto)]
+
 ghost use Rattle.std.specs.Prelude.{◌≡◌};
 ghost use Rattle.board.specs.Board.{whole, step, board_turn, StepTook};
 ghost use Rattle.board_answer.specs.Chosen.{chosen_board};

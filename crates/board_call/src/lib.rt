@@ -2,6 +2,8 @@
 //
 // The replay's description decides; the rule is `chip_turn` of board's specs/Board.antt. The tables are lent. Not
 // modelled: as there.
+#![tactic(auto)]
+
 ghost use Rattle.std.specs.Prelude.{◌≡◌, ℕ, List};
 ghost use Rattle.board.specs.Board.{whole, chip_turn, StepTook};
 ghost use Rattle.board_call.specs.Steps.{a_step, b_step, c_step};

@@ -2,6 +2,8 @@
 //
 // The replay's description decides; the rule is `sheet_turn` of board's specs/Board.antt. The page is lent, and the
 // tables are. Not modelled: as there.
+#![tactic(auto)]
+
 ghost use Rattle.std.specs.Prelude.{◌≡◌, ℕ, List};
 ghost use Rattle.port_log.specs.declared.Chip.TheVariants.{ChipA as chipA};
 ghost use Rattle.answers.specs.Answers.{Says, bad_text};

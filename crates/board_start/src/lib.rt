@@ -2,6 +2,8 @@
 //
 // The replay's description decides; the rule is `started` of board's specs/Board.antt: every state as a reset leaves
 // it, chip B's revision 3 and board number 5, chip A chosen. Not modelled: as there.
+#![tactic(auto)]
+
 ghost use Rattle.std.specs.Prelude.{◌≡◌, ℕ, List};
 ghost use Rattle.hd153108.specs.Hd153108.{Chip as AChip, zeroed as aZeroed};
 ghost use Rattle.ms622424.specs.Ms622424.{resets as bResets, called as bCalled};

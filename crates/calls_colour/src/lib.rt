@@ -2,6 +2,8 @@
 //
 // Document 01, "The sheet and its calls", decides; the calls are `colour_calls` of calls' specs/Calls.antt. Bytes past
 // them keep their values. Not modelled: as in calls.
+#![tactic(auto)]
+
 ghost use Rattle.std.specs.Prelude.{◌≡◌, ◌+◌, ◌%◌, ◌≤◌, ◌<◌, length};
 ghost use Rattle.sheet.specs.Sheet.{Wrote};
 ghost use Rattle.calls.specs.Calls.{colour_calls, call_bytes};

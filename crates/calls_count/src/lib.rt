@@ -2,6 +2,8 @@
 //
 // Document 01, "The sheet and its calls", decides; the list is `calls_of` of calls' specs/Calls.antt. Not modelled: as
 // there.
+#![tactic(auto)]
+
 ghost use Rattle.std.specs.Prelude.{◌≡◌, false, map, ◌≤◌, ◌<◌, length};
 ghost use Rattle.sheet.specs.Kept.{line_for};
 ghost use Rattle.calls.specs.Calls.{calls_of};

@@ -3,6 +3,8 @@
 // Document 01, "The sheet and its calls", decides; the calls are `entry_calls` of calls' specs/Calls.antt. A call is two
 // bytes, select and byte; bytes past them keep their values. The colour's are in calls_colour. Not modelled: as in
 // calls.
+#![tactic(auto)]
+
 ghost use Rattle.std.specs.Prelude.{[], ◌∷◌, ◌+◌, ◌≤◌, length};
 ghost use Rattle.sheet.specs.Sheet.{Wrote};
 ghost use Rattle.sheet.specs.Kept.{line_for};

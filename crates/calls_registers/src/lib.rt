@@ -2,6 +2,8 @@
 //
 // Document 01, "The sheet and its calls", decides; the calls are `register_calls` of calls' specs/Calls.antt. Bytes
 // past them keep their values. Not modelled: as in calls.
+#![tactic(auto)]
+
 ghost use Rattle.std.specs.Prelude.{◌≡◌, [], ◌∷◌, map, ◌≤◌, ◌<◌, length};
 ghost use Rattle.sheet.specs.Sheet.{registers_of, Wrote};
 ghost use Rattle.sheet.specs.Kept.{line_for};

@@ -2,6 +2,8 @@
 //
 // Document 01, "The sheet and its calls", decides; the calls are `table_calls` of calls' specs/Calls.antt. Not modelled:
 // as in calls.
+#![tactic(auto)]
+
 ghost use Rattle.std.specs.Prelude.{false, map, ◌≤◌, length};
 ghost use Rattle.sheet.specs.Sheet.{Wrote};
 ghost use Rattle.sheet.specs.Kept.{line_for};

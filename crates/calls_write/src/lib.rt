@@ -3,6 +3,8 @@
 // Document 01, "The sheet and its calls", decides; the list is `calls_of` of calls' specs/Calls.antt: the registers of
 // calls_registers, and the two tables of calls_table behind them. Bytes past the list keep their values. Not
 // modelled: as in calls.
+#![tactic(auto)]
+
 ghost use Rattle.std.specs.Prelude.{◌≡◌, map, ◌≤◌, length};
 ghost use Rattle.sheet.specs.Sheet.{pasted};
 ghost use Rattle.sheet.specs.Kept.{line_for};

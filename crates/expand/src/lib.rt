@@ -3,6 +3,8 @@
 // Source document 001, Tables 23 to 25, and document 02, P4, decide; specs/Expand.antt says it. The expander, with the
 // constant table of 8 bits, is in expand_widths, the call of the board's C program in expand_c, and each width's rule
 // in theorem_scope_expand. Not modelled: the linearization register that chooses between 6 and 8 bits on the chip.
+#![tactic(auto)]
+
 ghost use Rattle.std.specs.Prelude.{◌≡◌};
 ghost use Rattle.expand.specs.Expand.{ten};
 

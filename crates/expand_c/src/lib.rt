@@ -2,6 +2,8 @@
 //
 // Document 02, P4, decides; the answers are `expansion` of expand's specs/Expand.antt, as the vocabulary tells them.
 // Not modelled: as in expand.
+#![tactic(auto)]
+
 ghost use Rattle.std.specs.Prelude.{◌≡◌};
 ghost use Rattle.vocabulary.specs.Reply.{decoded, telling};
 ghost use Rattle.expand.specs.Expand.{expansion, meaning};

@@ -2,6 +2,8 @@
 //
 // Source document 001, Tables 23 to 25, and document 02, P2 (no other table) and P4 (every width), decide; the answers
 // are `expansion` of expand's specs/Expand.antt. Not modelled: as in expand.
+#![tactic(auto)]
+
 mod table;
 
 ghost use Rattle.std.specs.Prelude.{◌≡◌};

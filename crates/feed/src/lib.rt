@@ -4,3 +4,4 @@
 // specs/Feed.antt says what bytes do (`fed`). No form has 16 bytes, so that a room of 16 is enough: proofs/Lines.antt
 // shows that a line of any length is then answered as the line that it is. Not modelled: where the bytes come from and
 // where the answers go, which is the program's.
+#![tactic(auto)]

@@ -2,6 +2,8 @@
 //
 // The replay's description decides; the rule is `fed` of feed's specs/Feed.antt: `take` equals it for what it takes,
 // for any board, hold, text, tables and page. All of them are lent but the board's states. Not modelled: as there.
+#![tactic(auto)]
+
 ghost use Rattle.std.specs.Prelude.{◌≡◌, [], take as first_of};
 ghost use Rattle.answers.specs.Answers.{Says};
 ghost use Rattle.board.specs.Board.{whole};

@@ -7,6 +7,7 @@
 // The calls are in hd153108_write, hd153108_read, hd153108_reset, hd153108_tick (blink step, tick), hd153108_pixel,
 // hd153108_pixel_refusal, hd153108_pixel_c and hd153108_look, and what they share is in hd153108_port and
 // hd153108_range. Not modelled: analogue output, clocks, pipeline delay, bus timing, blanking.
+#![tactic(auto)]
 
 // The blink clock: the Blink Timing Register, and the ticks passed in its period.
 #[repr(C)]

@@ -2,6 +2,8 @@
 //
 // Source document 003, Access to CLT/OLT, with document 01's rulings, decides; the rule is `stepped` of hd153108's
 // specs/Hd153108.antt, and the byte the entry's at the pointer. Not modelled: as there.
+#![tactic(auto)]
+
 ghost use Rattle.std.specs.Prelude.{◌≡◌, ◌+◌, ◌*◌, ◌≤◌, ◌<◌, length, get_or};
 ghost use Rattle.vocabulary.specs.Component.{component_at};
 ghost use Rattle.hd153108.specs.Hd153108.{stepped as steppedOf, accept};

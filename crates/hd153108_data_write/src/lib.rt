@@ -2,6 +2,8 @@
 //
 // Source document 003, Access to CLT/OLT, with document 01's rulings, decides; the rules are `stepped`, `latched` and
 // `stored` of hd153108's specs/Hd153108.antt. Not modelled: as there.
+#![tactic(auto)]
+
 ghost use Rattle.std.specs.Prelude.{◌≡◌, ◌+◌, ◌*◌, ◌≤◌, length};
 ghost use Rattle.vocabulary.specs.Component.{component_at, put};
 ghost use Rattle.hd153108.specs.Hd153108.{stepped, latched, stored};

@@ -2,6 +2,8 @@
 //
 // Request P5 decides; the places and the rule are `look_places` and `called (looks ..)` of hd153108's
 // specs/Hd153108.antt. Not modelled: as there.
+#![tactic(auto)]
+
 ghost use Rattle.std.specs.Prelude.{◌≤◌, ◌≡◌, length};
 ghost use Rattle.vocabulary.specs.Look.{looking};
 ghost use Rattle.hd153108.specs.Hd153108.{chip, InRange, looks, called};

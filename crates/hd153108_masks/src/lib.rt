@@ -2,6 +2,8 @@
 //
 // Source document 003, Table 4 and Internal Registers, with document 01's rulings, decides; the rule is `masked` of
 // hd153108's specs/Hd153108.antt. Not modelled: analogue output, blanking, pipeline delay.
+#![tactic(auto)]
+
 ghost use Rattle.std.specs.Prelude.{◌≡◌, ◌/◌, ◌<◌};
 ghost use Rattle.hd153108.specs.Hd153108.{masked};
 

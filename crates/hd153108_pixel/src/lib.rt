@@ -5,6 +5,8 @@
 // colour is handed back as a part of a lent table, not copied, and which part of which table is promised too
 // (specs/Place.antt); hd153108_pixel_c has the copy for C, and hd153108_pixel_refusal the refusal. The call changes
 // neither state nor table. Not modelled: analogue output, blanking, pipeline delay.
+#![tactic(auto)]
+
 ghost use Rattle.std.specs.Prelude.{◌≡◌, ◌<◌, length};
 ghost use Rattle.hd153108.specs.Hd153108.{chip, pixel_part};
 ghost use Rattle.hd153108_pixel.specs.Place.{shown_place};

@@ -3,6 +3,8 @@
 // Source document 003, Table 4, with document 01's rulings and request P3, decides; the rule is `called` of `pixels`
 // in hd153108's specs/Hd153108.antt. The call changes neither state nor table. Not modelled: analogue output,
 // blanking, pipeline delay.
+#![tactic(auto)]
+
 ghost use Rattle.std.specs.Prelude.{◌≡◌, ◌+◌, ◌*◌, ◌≤◌, length};
 ghost use Rattle.hd153108.specs.Hd153108.{chip, colour_at, pixels, called};
 ghost use Rattle.vocabulary.specs.Pixel.{showing};

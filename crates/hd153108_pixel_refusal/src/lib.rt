@@ -2,6 +2,8 @@
 //
 // Source document 003, Table 4, with document 01's rulings and request P3, decides; the rule is `called` of `pixels`
 // in hd153108's specs/Hd153108.antt. The call changes neither state nor table. Not modelled: as in hd153108_pixel.
+#![tactic(auto)]
+
 ghost use Rattle.std.specs.Prelude.{◌≡◌};
 ghost use Rattle.hd153108.specs.Hd153108.{chip, pixels, called};
 

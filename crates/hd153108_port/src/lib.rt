@@ -3,6 +3,8 @@
 //
 // Source document 003, with document 01's rulings, decides; hd153108's specs/Hd153108.antt says it. Not modelled: as
 // there.
+#![tactic(auto)]
+
 ghost use Rattle.std.specs.Prelude.{◌≡◌};
 ghost use Rattle.hd153108.specs.Hd153108.{colour, overlay, next};
 ghost use Rattle.hd153108.specs.Hd153108.{port as portOf, registers as registers_of, refuse, accept};

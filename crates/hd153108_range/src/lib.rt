@@ -2,6 +2,8 @@
 //
 // Source document 003, with document 01's rulings, decides; hd153108's specs/Hd153108.antt says it. Not modelled: as
 // there.
+#![tactic(auto)]
+
 ghost use Rattle.std.specs.Prelude.{◌≡◌};
 ghost use Rattle.vocabulary.specs.Range.{meets, fails};
 ghost use Rattle.vocabulary.specs.Refusal.{refusal_of, standing as standingRows};

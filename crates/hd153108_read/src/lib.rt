@@ -2,6 +2,8 @@
 //
 // Source document 003, Register Mapping, Access to CLT/OLT and Internal Registers, with document 01's rulings,
 // decides; the rule is `called` of `reads` in hd153108's specs/Hd153108.antt. Not modelled: as there.
+#![tactic(auto)]
+
 ghost use Rattle.std.specs.Prelude.{◌≡◌};
 ghost use Rattle.hd153108.specs.Hd153108.{chip, outcome, reads, called};
 

@@ -2,6 +2,8 @@
 //
 // Document 01, "Chip A", decides; the rule is `called` of `resets` in hd153108's specs/Hd153108.antt. Not modelled: as
 // there.
+#![tactic(auto)]
+
 ghost use Rattle.std.specs.Prelude.{◌≡◌, List, ℕ};
 ghost use Rattle.hd153108.specs.Hd153108.{chip, outcome, resets, called};
 

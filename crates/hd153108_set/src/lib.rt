@@ -3,6 +3,8 @@
 // Source document 003, Address Register and Internal Registers, with document 01's rulings, decides; the rule is
 // `written` of hd153108's specs/Hd153108.antt. What is promised is of a chip in range, whatever tables it is lent. Not
 // modelled: as there.
+#![tactic(auto)]
+
 ghost use Rattle.std.specs.Prelude.{List, ◌≡◌, ℕ};
 ghost use Rattle.hd153108.specs.Hd153108.{chip, outcome, InRange, writes, called};
 

@@ -3,6 +3,8 @@
 // Source document 003, Table 4 and Internal Registers, with document 01's rulings, decides, and document 02's request
 // P3 over them; the rule is `pixel_part` of hd153108's specs/Hd153108.antt, and what a decision means is
 // specs/Picked.antt. Not modelled: analogue output, blanking, pipeline delay.
+#![tactic(auto)]
+
 ghost use Rattle.std.specs.Prelude.{◌≡◌, ◌/◌, ◌<◌};
 ghost use Rattle.vocabulary.specs.Line.{line};
 ghost use Rattle.hd153108.specs.Hd153108.{chip, masked, selected};

@@ -3,6 +3,8 @@
 // Source document 003, Tables 5.1 and 5.2, with document 01's rulings, decides; the rule is `tick` of hd153108's
 // specs/Hd153108.antt, which is `called` of `ticks` on the chip that has the clock (`tick_lent`). Not modelled: as
 // there.
+#![tactic(auto)]
+
 ghost use Rattle.std.specs.Prelude.{◌≡◌};
 ghost use Rattle.hd153108.specs.Hd153108.{clock, tick, clock_outcome};
 

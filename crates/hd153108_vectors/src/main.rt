@@ -11,6 +11,8 @@
 //   c colour, o overlay: entry, label            g the registers are printed
 //   k the blink clock is printed                 a the blink clock advances by a tick, and is printed
 //   n every byte of colour n is made n, and every byte of overlay n 0xf0 + n, so that a pixel's part shows its entry
+#![tactic(auto)]
+
 mod show;
 
 use hd153108::{Clock, State};

@@ -2,6 +2,8 @@
 //
 // Document 01, "The sheet and its calls", decides; specs/Hex.antt says it. The number that several digits spell is
 // read in hex_number. Not modelled: upper case, which no text of this project has.
+#![tactic(auto)]
+
 ghost use Rattle.std.specs.Prelude.{◌≡◌, ◌%◌, ◌<◌, get_or};
 ghost use Rattle.hex_digits.specs.Hex.{hex_digit, hex_value};
 

@@ -3,6 +3,8 @@
 // The replay's description and document 01, "The sheet and its calls", decide what a digit is; the definition is
 // `number` of hex's specs/Hex.antt. A byte that is no digit counts as 0, and so does a place past the end. Not
 // modelled: numbers of more than eight digits.
+#![tactic(auto)]
+
 ghost use Rattle.std.specs.Prelude.{◌≡◌, ◌<◌, ◌≤◌};
 ghost use Rattle.hex_digits.specs.Hex.{number};
 

@@ -4,6 +4,8 @@
 // specs/Hold.antt says what is held (`held_of`), and `scan` equals it for any text, room and count. What the held
 // bytes say is in hold_hear. Not modelled: where the bytes come from, and what a line's call does, which is the
 // board's.
+#![tactic(auto)]
+
 ghost use Rattle.std.specs.Prelude.{◌≡◌};
 ghost use Rattle.hold.specs.Hold.{hold as held, holding, before, held_of};
 

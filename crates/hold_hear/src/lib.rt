@@ -2,6 +2,8 @@
 //
 // The replay's description decides; `Hears` of hold's specs/Hold.antt says what is heard, for any text, room and
 // count. Not modelled: as in hold.
+#![tactic(auto)]
+
 ghost use Rattle.std.specs.Prelude.{◌≡◌, take as first_of};
 ghost use Rattle.port_log.specs.Log.{line_of};
 ghost use Rattle.hold.specs.Hold.{hold as held, Hears};

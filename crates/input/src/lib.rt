@@ -3,6 +3,8 @@
 // The replay's description decides: a tool may wait for an answer before it sends the next line. specs/Input.antt says
 // when a read may be made (`Answered`); `read` asks for it, so that a read before is refused. Where the output can't be
 // written any more, nothing more is read. Not modelled: what is read and printed, which no contract says.
+#![tactic(auto)]
+
 ghost use Rattle.std.specs.Prelude.{◌≡◌, ◌+◌, ◌^◌, ◌<◌, length};
 ghost use Rattle.input.specs.Input.{Answered, Printed, Read, Next, taking};
 

@@ -4,6 +4,8 @@
 // 2,134 (proofs/Size.antt of crate sheet_written). Short reads are joined. It prints one call a line, `w`, select, `=`,
 // byte in hex; or the two lines `refused=8` and `line=`, with the number of the first bad or missing line. The list is
 // made by crate sheet_calls; its buffer holds the longest there is, 786 calls.
+#![tactic(auto)]
+
 ghost use Rattle.std.specs.Prelude.{◌≡◌, [], ◌∷◌, ◌/◌, ◌%◌};
 ghost use Rattle.hex_digits.specs.Hex.{hex_digit};
 

@@ -2,6 +2,8 @@
 //
 // The replay's line forms decide; specs/Pattern.antt says what a pattern is. The forms, and what each says, are in log.
 // Not modelled: patterns of more than one length.
+#![tactic(auto)]
+
 ghost use Rattle.std.specs.Prelude.{◌≡◌};
 ghost use Rattle.log_pattern.specs.Pattern.{is_digit, stands as stands_for, fits as fitsPattern};
 

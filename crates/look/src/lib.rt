@@ -2,6 +2,8 @@
 //
 // Request P5 decides; vocabulary's specs/Look.antt says what a look answers, and each chip which places it has. Not
 // modelled here: any place.
+#![tactic(auto)]
+
 ghost use Rattle.std.specs.Prelude.{◌≡◌};
 ghost use Rattle.vocabulary.specs.Look.{seen as seen_at, unseen};
 

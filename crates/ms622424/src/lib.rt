@@ -7,6 +7,7 @@
 // _queue_range, _gather, _clear, _store and _transfer, the parts of a write (ms622424_room, _take, _palette, _set), of
 // a read (ms622424_status, _map_read, _registers) and of a pixel (ms622424_entry), and a crate for each call. Not
 // modelled: clocks, bus timing and the pipeline; the output that is held while the processor has the map.
+#![tactic(auto)]
 
 // What data accesses move: the address, the RGB counter, and the Color Buffer Register.
 #[repr(C)]

@@ -2,6 +2,8 @@
 //
 // Source document 004, "Write FIFO", document 01, "Chip B", and document 02, P7, decide; ms622424's
 // specs/Ms622424.antt says it (`blanked`, `blank_refusals`). Not modelled: what the output shows during a transfer.
+#![tactic(auto)]
+
 ghost use Rattle.ms622424.specs.Ms622424.{blanks, called};
 ghost use Rattle.ms622424_places.specs.Places.{handed, outcome, Does};
 

@@ -2,6 +2,8 @@
 //
 // Source document 004, "Pin Descriptions", and document 01, "Chip B", decide; ms622424's specs/Ms622424.antt says it
 // (`entry_shown`). Not modelled: as in ms622424_pixel.
+#![tactic(auto)]
+
 ghost use Rattle.std.specs.Prelude.{◌≡◌, ◌<◌};
 ghost use Rattle.vocabulary.specs.Component.{Component};
 ghost use Rattle.ms622424.specs.Ms622424.{pixel_byte, entry_shown};

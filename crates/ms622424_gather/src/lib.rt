@@ -2,6 +2,8 @@
 //
 // Document 01, "Chip B", decides what a place may hold: ms622424_places says how the places keep a queue, and
 // ms622424_queue_range which power is asked. Not modelled: anything of the chip but lent places.
+#![tactic(auto)]
+
 ghost use Rattle.std.specs.Prelude.{◌≡◌, ℕ, ◌-◌, ◌^◌, ◌≤◌, ltb, length, take, drop};
 ghost use Rattle.vocabulary.specs.Every.{every};
 

@@ -3,6 +3,8 @@
 //
 // Requests P5 and P7 decide; the places and the rule are `look_places` and `called (looks ..)` of ms622424's
 // specs/Ms622424.antt. Not modelled: as there.
+#![tactic(auto)]
+
 ghost use Rattle.std.specs.Prelude.{◌≤◌, ◌≡◌, length};
 ghost use Rattle.vocabulary.specs.Look.{looking};
 ghost use Rattle.ms622424.specs.Ms622424.{Chip, InRange, looks, called};

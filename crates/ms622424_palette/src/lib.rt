@@ -2,6 +2,8 @@
 //
 // Source document 004, "Write FIFO", and document 01, "Chip B", decide; ms622424's
 // specs/Ms622424.antt says it (`written`). Not modelled: what the output shows during a transfer.
+#![tactic(auto)]
+
 ghost use Rattle.std.specs.Prelude.{◌≡◌};
 ghost use Rattle.ms622424.specs.Ms622424.{InRange, palette, written, writes, called};
 ghost use Rattle.ms622424_places.specs.Places.{handed, view, outcome, seen, Does};

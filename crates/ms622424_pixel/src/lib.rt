@@ -3,6 +3,8 @@
 // Source document 004, "Pin Descriptions", and document 01, "Chip B", decide; ms622424's specs/Ms622424.antt says it
 // (`shown`, `pixel_refusals`). The call changes nothing. Not modelled: the pipeline's delay, the held colour while the
 // processor has the map, the pins' timing.
+#![tactic(auto)]
+
 ghost use Rattle.std.specs.Prelude.{◌≡◌};
 ghost use Rattle.ms622424.specs.Ms622424.{pixels, called};
 ghost use Rattle.vocabulary.specs.Pixel.{showing, dark};

@@ -3,6 +3,8 @@
 // specs/Places.antt is the one file that says which chip they are, and what a call promises of them; document 01,
 // "Chip B", and document 02, P7, decide. The places are a ring, one number an entry: the oldest is at the first
 // position, and what unused places hold is nobody's concern. Not modelled: as in ms622424.
+#![tactic(auto)]
+
 use ms622424::{Control, Ident, Port};
 
 // Which place of the lent queue is first, and how many entries wait from there on.

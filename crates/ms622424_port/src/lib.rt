@@ -3,6 +3,8 @@
 //
 // Source document 004 and document 01, "Chip B", decide; ms622424's specs/Ms622424.antt says it. Not modelled: as
 // there.
+#![tactic(auto)]
+
 ghost use Rattle.std.specs.Prelude.{◌≡◌};
 ghost use Rattle.ms622424.specs.Ms622424.{selected, stepped};
 ghost use Rattle.ms622424_places.specs.Places.{accept, refuse};

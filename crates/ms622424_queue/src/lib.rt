@@ -4,6 +4,8 @@
 // (`complete`), and ms622424_places how the places keep it. The code that knows the places is this crate and
 // ms622424_queue_range with ms622424_gather (their range), ms622424_store and ms622424_transfer. Not modelled: as in
 // ms622424.
+#![tactic(auto)]
+
 ghost use Rattle.std.specs.Prelude.{◌≡◌, List, ℕ, ◌<◌, length};
 ghost use Rattle.ms622424.specs.Ms622424.{complete, completed};
 ghost use Rattle.ms622424_places.specs.Places.{unpacked, handed, view};

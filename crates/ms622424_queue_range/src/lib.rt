@@ -2,6 +2,8 @@
 //
 // Document 01, "Chip B", and document 02, P7, decide; ms622424's specs/Ms622424.antt says it (`queue_ranges`), and
 // ms622424_places how the places keep it. Not modelled: as in ms622424.
+#![tactic(auto)]
+
 ghost use Rattle.std.specs.Prelude.{◌≡◌, [], ◌≤◌, ◌<◌, length};
 ghost use Rattle.vocabulary.specs.Range.{meets};
 ghost use Rattle.vocabulary.specs.Every.{every};

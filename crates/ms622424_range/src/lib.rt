@@ -3,6 +3,8 @@
 //
 // Document 01, "Chip B", decides; ms622424's specs/Ms622424.antt says it. How the queue is kept is not known here:
 // ms622424_queue_range tests its places. Not modelled: as there.
+#![tactic(auto)]
+
 ghost use Rattle.std.specs.Prelude.{◌≡◌, [], ◌∷◌, length};
 ghost use Rattle.vocabulary.specs.Range.{equal, meets, fails};
 ghost use Rattle.vocabulary.specs.Refusal.{refusal_of, standing};

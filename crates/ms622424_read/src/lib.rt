@@ -2,6 +2,8 @@
 //
 // Source document 004, "Truth Table" and "Internal Registers", and document 01, "Chip B", decide; ms622424's
 // specs/Ms622424.antt says it (`answers`, `read_refusals`). Not modelled: the pixels that a read of the map disturbs.
+#![tactic(auto)]
+
 ghost use Rattle.ms622424.specs.Ms622424.{reads, called};
 ghost use Rattle.ms622424_places.specs.Places.{handed, outcome, Does};
 

@@ -2,6 +2,8 @@
 //
 // Source document 004, RSB, and document 01, "Chip B", decide; ms622424's specs/Ms622424.antt says it (`fresh`,
 // `reset_refusals`). Not modelled: as there.
+#![tactic(auto)]
+
 ghost use Rattle.std.specs.Prelude.{List, ℕ};
 ghost use Rattle.ms622424.specs.Ms622424.{resets, called};
 ghost use Rattle.ms622424_places.specs.Places.{handed, outcome, Does};

@@ -2,6 +2,8 @@
 //
 // Source document 004, "Internal Registers", and document 01, "Chip B", decide; ms622424's specs/Ms622424.antt says it
 // (`written`). What is promised is of a chip in range, whatever tables keep it. Not modelled: as there.
+#![tactic(auto)]
+
 ghost use Rattle.std.specs.Prelude.{List, ℕ};
 ghost use Rattle.ms622424.specs.Ms622424.{InRange, writes, called};
 ghost use Rattle.ms622424_places.specs.Places.{handed, view, outcome, Does};

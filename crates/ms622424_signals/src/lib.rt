@@ -2,6 +2,8 @@
 //
 // Source document 004, PIPE.IN and PIPE.OUT, and document 01, "Chip B", decide; ms622424's specs/Ms622424.antt says it
 // (`pipe_out`, `signal_refusals`). The call changes nothing. Not modelled: the pipeline's delay, the pins' timing.
+#![tactic(auto)]
+
 ghost use Rattle.std.specs.Prelude.{◌≡◌, List, ℕ, ◌<◌};
 ghost use Rattle.ms622424.specs.Ms622424.{pipe_out, signals as signalsCall, called};
 ghost use Rattle.ms622424_places.specs.Places.{handed, outcome, Does};

@@ -2,6 +2,8 @@
 //
 // Source document 004, "Internal Registers", and document 01, "Chip B", decide; ms622424's specs/Ms622424.antt says it
 // (`status_of`). Not modelled: as there.
+#![tactic(auto)]
+
 ghost use Rattle.std.specs.Prelude.{◌≡◌, ◌+◌, ◌<◌, ◌≤◌};
 ghost use Rattle.vocabulary.specs.Choice.{pick};
 ghost use Rattle.ms622424.specs.Ms622424.{status_of};

@@ -2,6 +2,8 @@
 //
 // Source document 004, "Write FIFO", and document 01, "Chip B", decide; ms622424's specs/Ms622424.antt says it
 // (`stored`, `all_stored`), and ms622424_places how a place holds an entry. Not modelled: what the output shows then.
+#![tactic(auto)]
+
 ghost use Rattle.std.specs.Prelude.{◌≡◌, ℕ, ◌+◌, ◌%◌, ◌^◌, ◌≤◌, ◌<◌, min, length, get_or};
 ghost use Rattle.ms622424.specs.Ms622424.{stored, all_stored};
 ghost use Rattle.ms622424_places.specs.Places.{unpacked, entries_in, ringed};

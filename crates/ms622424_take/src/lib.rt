@@ -2,6 +2,8 @@
 //
 // Source document 004, "Write FIFO", and document 01, "Chip B", decide; ms622424's specs/Ms622424.antt says it
 // (`taken`). Not modelled: as in ms622424_palette.
+#![tactic(auto)]
+
 ghost use Rattle.std.specs.Prelude.{◌≡◌, List, ℕ, ◌<◌, length};
 ghost use Rattle.ms622424.specs.Ms622424.{selected, taken};
 ghost use Rattle.ms622424_places.specs.Places.{handed, view};

@@ -3,6 +3,8 @@
 // Source document 004, "Write FIFO", document 01, "Chip B", and document 02, P7, decide; ms622424's
 // specs/Ms622424.antt says it (`moves`), and ms622424_places how the places keep it. Not modelled: what the output
 // shows during a transfer.
+#![tactic(auto)]
+
 ghost use Rattle.std.specs.Prelude.{◌≡◌};
 ghost use Rattle.ms622424.specs.Ms622424.{InRange, made, moves};
 ghost use Rattle.ms622424_places.specs.Places.{handed, view};

@@ -14,6 +14,8 @@
 //   r read: select                               b blanking: slots**
 //   p pixel: mode, word**                        y timing signals: signals
 //   z reset                                      ? look: place**
+#![tactic(auto)]
+
 ghost use Rattle.std.specs.Prelude.{◌<◌};
 
 mod calls;

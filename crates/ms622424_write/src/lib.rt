@@ -2,6 +2,8 @@
 //
 // Source document 004, "MPU Interface" and "Write FIFO", and document 01, "Chip B", decide; ms622424's
 // specs/Ms622424.antt says it (`written`, `write_refusals`). Not modelled: what the output shows during a transfer.
+#![tactic(auto)]
+
 ghost use Rattle.ms622424.specs.Ms622424.{writes, called};
 ghost use Rattle.ms622424_places.specs.Places.{handed, outcome, Does};
 

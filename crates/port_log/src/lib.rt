@@ -3,6 +3,7 @@
 // The replay's line forms decide; specs/Log.antt says each as a pattern. A line is given without its LF. The forms are
 // read in log_board (the board's own lines, and a look), log_chips (calls that one chip has) and log_parse (all). Which
 // chip a call goes to, and whether it is for that chip, is the board's to say.
+#![tactic(auto)]
 
 // The chip that a line chooses.
 #[derive(Drop)]

@@ -1,6 +1,8 @@
 // Standard output behind a lent buffer: bytes wait there until they are flushed, or there is no room for more.
 //
 // Not modelled: what is printed, which no contract says; each function is proved safe, and ends.
+#![tactic(auto)]
+
 ghost use Rattle.std.specs.Prelude.{◌≤◌};
 
 use libc::STDOUT_FILENO;

@@ -4,6 +4,8 @@
 // is read by crate input. It needs the same memory whatever comes in. The input is read to its end, unless the output
 // can't be written, in at most as many turns as a u64 counts: a turn takes what was read up to a line's end, and reads
 // on where all of it was taken. Not modelled: what is read and printed, which no contract says.
+#![tactic(auto)]
+
 ghost use Rattle.std.specs.Prelude.{◌≡◌, ◌+◌, ◌^◌, ◌<◌, length};
 
 use board::Board;

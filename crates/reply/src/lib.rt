@@ -2,6 +2,8 @@
 //
 // The rule is `decoded` of vocabulary's specs/Reply.antt: where each of the four stands in the 64 bits. Document 01
 // decides what is told. Not modelled: how a C program reads the number; the header has that.
+#![tactic(auto)]
+
 ghost use Rattle.std.specs.Prelude.{◌≡◌};
 ghost use Rattle.vocabulary.specs.Reply.{decoded, reply};
 

@@ -8,6 +8,7 @@
 // chip in range stays in range (InRange), which refusal an access meets (Access), what each write does (Effects), what
 // the calls keep (Keeps), what each place of a look tells (Look). Not modelled: ports 0 to 3 and 7, the window tables,
 // cursor, YUV and the sequences of four and six transfers, the other registers, analogue output, clocks and bus timing.
+#![tactic(auto)]
 
 // A colour of ten bits a component.
 #[repr(C)]

@@ -3,6 +3,8 @@
 //
 // Request P5 decides; the places and the rule are `look_places` and `called (looks ..)` of rgb640's specs/Rgb640.antt.
 // Not modelled: as there.
+#![tactic(auto)]
+
 ghost use Rattle.std.specs.Prelude.{◌≤◌, ◌≡◌, length};
 ghost use Rattle.vocabulary.specs.Look.{looking};
 ghost use Rattle.rgb640.specs.Rgb640.{chip, InRange, looks, called};

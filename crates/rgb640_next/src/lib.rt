@@ -2,6 +2,8 @@
 //
 // Source document 001, section 9.4.1, and document 01, "Chip C", decide; the rule is `next` of rgb640's
 // specs/Rgb640.antt. Not modelled: as there.
+#![tactic(auto)]
+
 ghost use Rattle.std.specs.Prelude.{◌≡◌};
 ghost use Rattle.rgb640.specs.Rgb640.{next};
 

@@ -2,6 +2,8 @@
 //
 // Source document 001, sections 9.4.1 and 10.15, and document 01, "Chip C", decide; the rule is `palette_taken` of
 // rgb640's specs/Rgb640.antt. Not modelled: as there.
+#![tactic(auto)]
+
 ghost use Rattle.std.specs.Prelude.{◌≡◌, length};
 ghost use Rattle.vocabulary.specs.Component.{put};
 ghost use Rattle.rgb640.specs.Rgb640.{chip, offset, writing, three_bytes, restarted, palette_taken, InRange};

@@ -2,6 +2,8 @@
 //
 // Source document 001, sections 9.3 and 9.4.1, and document 01, "Chip C", decide; the rules are in rgb640's
 // specs/Rgb640.antt. Not modelled: as there.
+#![tactic(auto)]
+
 ghost use Rattle.std.specs.Prelude.{◌≡◌};
 ghost use Rattle.vocabulary.specs.Range.{meets};
 ghost use Rattle.rgb640.specs.Rgb640.{state_ranges, standing_of};

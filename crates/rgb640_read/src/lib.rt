@@ -2,6 +2,8 @@
 //
 // Source document 001, sections 9.1, 9.4.1 and 10.15, and document 01, "Chip C", decide; the rule is
 // `called (reads ..)` of rgb640's specs/Rgb640.antt. Not modelled: as there.
+#![tactic(auto)]
+
 ghost use Rattle.std.specs.Prelude.{◌≡◌, length};
 ghost use Rattle.rgb640.specs.Rgb640.{chip, reading, fetches_entry, three_bytes, restarted, palette_told, standing_of};
 ghost use Rattle.rgb640.specs.Rgb640.{accept_told, outcome, reads, called, InRange};

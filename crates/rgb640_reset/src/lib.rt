@@ -1,6 +1,8 @@
 // Chip C, the palette port of the RGB640: the reset.
 //
 // Document 01, "Chip C", decides; the rule is `called resets` of rgb640's specs/Rgb640.antt. Not modelled: as there.
+#![tactic(auto)]
+
 ghost use Rattle.std.specs.Prelude.{◌≡◌, List, ℕ};
 ghost use Rattle.rgb640.specs.Rgb640.{chip, outcome, resets, called};
 

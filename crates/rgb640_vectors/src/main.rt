@@ -14,6 +14,8 @@
 //   e an entry of the table*                     i the index and the place
 //   f the fetched entry                          l the latches and register 0x000E
 //   ? look: place**
+#![tactic(auto)]
+
 mod print;
 
 use libc::STDIN_FILENO;

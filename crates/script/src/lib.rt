@@ -4,6 +4,8 @@
 // A line's first byte says what is done. Its numbers stand at fixed places, in lower-case hex digits, and behind them a
 // label. What a line holds and where is said by the program that reads it. Of a line that is too short the missing
 // digits are 0: a list is compared by what the program prints. Not modelled: what is printed, which no contract says.
+#![tactic(auto)]
+
 ghost use Rattle.std.specs.Prelude.{◌≤◌, ◌<◌, length};
 
 use libc::STDOUT_FILENO;

@@ -5,6 +5,8 @@
 // written in sheet_text and read in sheet_line, the whole sheet in sheet_writer and sheet_reader; the call list is in
 // calls. Keys are numbered from 0 in the sheet's order: the five first lines, o0 to o3, c00 to cff. Not modelled: any
 // other chip's sheet.
+#![tactic(auto)]
+
 ghost use Rattle.sheet.specs.Sheet.{Tells};
 
 // A key's line: there with its value, or missing.

@@ -2,6 +2,8 @@
 //
 // Document 01, "The sheet and its calls", decides; the step is `sheet_to_calls` of calls' specs/Calls.antt. The caller
 // owns the buffer; bytes past the list keep their values, and a refusal writes none. Not modelled: as there.
+#![tactic(auto)]
+
 ghost use Rattle.std.specs.Prelude.{◌≡◌};
 ghost use Rattle.sheet.specs.Sheet.{outcome, heard, telling};
 ghost use Rattle.calls.specs.Calls.{sheet_to_calls};

@@ -2,6 +2,8 @@
 //
 // Document 01, "The sheet and its calls", decides; they are `starts` and `takes` of sheet's specs/Sheet.antt. Not
 // modelled: as in sheet.
+#![tactic(auto)]
+
 ghost use Rattle.std.specs.Prelude.{◌≡◌};
 ghost use Rattle.sheet.specs.Sheet.{key_at, takes as takesOf, starts};
 

@@ -2,6 +2,8 @@
 //
 // Document 01, "The sheet and its calls", decides; specs/Reader.antt says what a line's answer makes of the sheet. A
 // line is read by the key that it names, so each line is read once. Not modelled: as in sheet_reader.
+#![tactic(auto)]
+
 ghost use Rattle.std.specs.Prelude.{◌≡◌, ◌≤◌, ◌<◌, length};
 ghost use Rattle.sheet.specs.Sheet.{keys};
 ghost use Rattle.sheet_key.specs.Reader.{named, Right};

@@ -3,6 +3,8 @@
 // Document 01, "The sheet and its calls", decides; the answer is `line_of` of sheet's specs/Sheet.antt. The bytes where
 // the key's digits stand are read as a number, and the line is there where the text starts with that number's line. Not
 // modelled: as in sheet.
+#![tactic(auto)]
+
 ghost use Rattle.std.specs.Prelude.{◌≡◌, ◌+◌, ◌<◌, length};
 ghost use Rattle.sheet.specs.Sheet.{key_at, front, width, line_of};
 

@@ -2,6 +2,8 @@
 //
 // Document 01, "The sheet and its calls", decides; the text is `text_of` of sheet's specs/Sheet.antt. Bytes past it keep
 // their values. Not modelled: as in sheet_writer.
+#![tactic(auto)]
+
 ghost use Rattle.std.specs.Prelude.{◌≡◌, ◌+◌, ◌≤◌, length};
 ghost use Rattle.hd153108.specs.Hd153108.{chip};
 ghost use Rattle.sheet.specs.Sheet.{key_at, line_text, text_of, pasted, Wrote};

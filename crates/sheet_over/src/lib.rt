@@ -2,6 +2,8 @@
 //
 // Document 01, "The sheet and its calls", decides; the test is `over_fifteen_in` of sheet's specs/Sheet.antt. Not
 // modelled: as in sheet_writer.
+#![tactic(auto)]
+
 ghost use Rattle.std.specs.Prelude.{◌≡◌};
 ghost use Rattle.sheet.specs.Sheet.{over_fifteen_in};
 

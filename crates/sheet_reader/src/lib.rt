@@ -3,6 +3,8 @@
 // Document 01, "The sheet and its calls", decides; specs/Sheet.antt of crate sheet says what a sheet is, and `read`
 // equals it. One line's answer is sheet_key's, an enum; a bad line leaves at once with its number. Any number of bytes
 // may come in. Not modelled: files, and lines that end in CR.
+#![tactic(auto)]
+
 ghost use Rattle.std.specs.Prelude.{◌≡◌};
 ghost use Rattle.sheet.specs.Sheet.{sheet_of, bad_line};
 ghost use Rattle.sheet.specs.Kept.{kept_of};

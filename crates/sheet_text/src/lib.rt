@@ -2,6 +2,8 @@
 //
 // Document 01, "The sheet and its calls", decides; a line is `line_text` of sheet's specs/Sheet.antt. Reader and writer
 // share it: the reader compares a text with the line that it would have to be. Not modelled: as in sheet.
+#![tactic(auto)]
+
 ghost use Rattle.std.specs.Prelude.{◌≡◌, ◌≤◌, ◌<◌, length, take};
 ghost use Rattle.sheet.specs.Sheet.{key_at, line_text};
 

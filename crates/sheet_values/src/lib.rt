@@ -2,6 +2,8 @@
 //
 // Document 01, "The sheet and its calls", decides; the values are `values` of sheet's specs/Sheet.antt. The caller owns
 // state and tables. Not modelled: as in sheet_writer.
+#![tactic(auto)]
+
 ghost use Rattle.std.specs.Prelude.{◌≡◌, false, ◌+◌, ◌*◌, ◌≤◌, ◌<◌, length, get_or};
 ghost use Rattle.hd153108.specs.Hd153108.{chip};
 ghost use Rattle.sheet.specs.Sheet.{keys, colours_in, values, over_fifteen_in};

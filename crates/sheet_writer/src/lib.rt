@@ -4,6 +4,8 @@
 // leaves, and the call equals it. It always lists all: 265 lines, 2,134 bytes. The caller owns state, tables and
 // buffer; bytes past the sheet keep their values, and a refusal writes none. The call for C is in sheet_writer_c. Not
 // modelled: a sheet with missing lines.
+#![tactic(auto)]
+
 ghost use Rattle.std.specs.Prelude.{◌≡◌};
 ghost use Rattle.hd153108.specs.Hd153108.{chip};
 ghost use Rattle.sheet.specs.Sheet.{write, outcome};

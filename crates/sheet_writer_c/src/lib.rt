@@ -2,6 +2,8 @@
 //
 // Document 01, "The sheet and its calls", decides; the answer is `write` of sheet's specs/Sheet.antt, as `telling`
 // there tells it. Not modelled: as in sheet_writer.
+#![tactic(auto)]
+
 ghost use Rattle.std.specs.Prelude.{◌≡◌};
 ghost use Rattle.hd153108.specs.Hd153108.{chip};
 ghost use Rattle.sheet.specs.Sheet.{write, heard, telling};

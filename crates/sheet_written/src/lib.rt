@@ -4,3 +4,4 @@
 // tables it takes is in specs/Writer.antt; proofs/Size.antt bounds every sheet, proofs/Round.antt is law 4, and
 // proofs/Ends.antt has the call by how it ends. The code is in sheet_over, sheet_values, sheet_lines and sheet_writer.
 // Not modelled: as there.
+#![tactic(auto)]

@@ -4,3 +4,4 @@
 // (`Judged` of vocabulary); two answers that its promise allows are equal (proofs/Determined.antt). proofs/Kept.antt:
 // a chip in range stays in range. proofs/Impostors.antt: queues that the statements rule out. Document 01 decides;
 // "The nine refusals" gives the order. Not modelled: as in the crates of the calls.
+#![tactic(auto)]

@@ -2,3 +2,4 @@
 //
 // The statement is specs/Edges.antt, the theorem `edges` of proofs/Edges.antt; `edge_met` shows that there are such
 // chips. Not modelled: anything that document 01 does not number there.
+#![tactic(auto)]

@@ -4,3 +4,4 @@
 // Request P5 decides. specs/Looks.antt has the statements: the theorem, the bench tool's story and a load with looks;
 // specs/Agrees.antt says that a look answers what the read of the same register answers. Not modelled: when in time a
 // look is made.
+#![tactic(auto)]

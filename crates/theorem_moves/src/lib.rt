@@ -3,3 +3,4 @@
 //
 // specs/MovesA.antt to MovesC.antt name the parts, proofs/MovesA.antt to MovesC.antt prove it of the chips' faces.
 // Document 01 and the data sheets decide what an access moves. Not modelled: time, and what the panel shows.
+#![tactic(auto)]

@@ -3,3 +3,4 @@
 //
 // specs/Premises.antt says what a run has to show, proofs/ that there is one. Document 01, "Chip B", decides. Not
 // modelled: as in ms622424.
+#![tactic(auto)]

@@ -3,3 +3,4 @@
 // promise. What decides: 004, "Write FIFO", and document 01, "Chip B". Not modelled: anyone else who writes the map.
 // specs/Unseen.antt is the statement and specs/Made.antt the same of calls as a caller makes them; proofs/Unseen.antt
 // and proofs/Made.antt are the theorems, and proofs/Premises.antt has runs that meet the premises.
+#![tactic(auto)]

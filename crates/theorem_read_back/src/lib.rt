@@ -5,3 +5,4 @@
 // it of ms622424's and rgb640's definitions, and proofs/Impostors.antt has two wrong chips that it refuses. Source
 // document 004, "Write FIFO" and "Truth Table", and 001, section 9.4.1, decide how an entry is written and read. Not
 // modelled: as in ms622424 and rgb640.
+#![tactic(auto)]

@@ -3,3 +3,4 @@
 // specs/Scope.antt has document 01's sentences in its order, words and numbers, with P3 and P5 of document 02, over any
 // `called`; proofs/Scope.antt shows that the HD153108 meets them, proofs/Determined.antt that two chips that do are one.
 // Not modelled: as in hd153108.
+#![tactic(auto)]

@@ -3,6 +3,8 @@
 // The replay's description decides; specs/Turns.antt says how an outcome is told, of any chip, and proofs/Told.antt has
 // its laws. Which call of a chip a line makes is said for each chip in a crate of its own: turns_a, turns_b, turns_c.
 // Not modelled: which chip a call goes to, which is the board's to say.
+#![tactic(auto)]
+
 ghost use Rattle.expand.specs.Expand.{meaning};
 ghost use Rattle.answers.specs.Answers.{Says, told as toldText, ten_text};
 ghost use Rattle.turns.specs.Turns.{expand_text};

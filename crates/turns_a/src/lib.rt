@@ -2,6 +2,8 @@
 //
 // The replay's description decides; specs/Turns.antt says which call of the chip is made and how its outcome is told.
 // The tables are lent, the state goes in and comes back by value. Not modelled: as in turns.
+#![tactic(auto)]
+
 ghost use Rattle.std.specs.Prelude.{ℕ, List};
 ghost use Rattle.hd153108.specs.Hd153108.{chip, ticks, looks, called};
 ghost use Rattle.answers.specs.Answers.{ok_text, news_text};

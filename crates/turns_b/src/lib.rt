@@ -3,6 +3,8 @@
 // The replay's description decides; specs/Turns.antt says which call of the chip is made and how its outcome is told,
 // of the chip that the state and the lent tables are (`view`). The queue and the map are lent, the state goes in and
 // comes back by value. Not modelled: as in turns.
+#![tactic(auto)]
+
 ghost use Rattle.std.specs.Prelude.{ℕ, List};
 ghost use Rattle.ms622424.specs.Ms622424.{signals as signalsCall, looks, called};
 ghost use Rattle.ms622424_places.specs.Places.{handed, view};

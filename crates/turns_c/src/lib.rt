@@ -2,6 +2,8 @@
 //
 // The replay's description decides; specs/Turns.antt says which call of the chip is made and how its outcome is told.
 // The table is lent, the state goes in and comes back by value. Not modelled: as in turns.
+#![tactic(auto)]
+
 ghost use Rattle.std.specs.Prelude.{◌≡◌};
 ghost use Rattle.rgb640.specs.Rgb640.{chip, looks, called};
 ghost use Rattle.answers.specs.Answers.{Says, ok_text, bad_text, news_text};

@@ -2,6 +2,8 @@
 //
 // specs/Version.antt has the three numbers, and says how they are packed and how they are written. Not modelled: the
 // header's own copy, which a program compares with this one.
+#![tactic(auto)]
+
 ghost use Rattle.std.specs.Prelude.{◌≡◌};
 ghost use Rattle.version.specs.Version.{packed, written};
 

@@ -12,7 +12,7 @@ expand_spec =
     tie.close
     (tie.spec (λ c. width_refused _ _ (λ a b. search rules)) (λ c. width_refused _ _ (λ a b. search rules))
     (λ c. eight_refused _ _ (search rules) (search rules) (search rules)) (λ c. search rules) (λ c κs. search rules)
-    (λ c. eight_listed _ _ (search rules) (search rules) (search rules) c.eight-listed.ensures)
+    (λ c. eight_listed _ _ (search rules) (search rules) (search rules) c.eight_listed.ensures)
     (λ c. search rules) (λ c. search rows) (λ c. search rules) (λ c. search rows) (λ c. search rules)
     (λ c. search rules) (λ c. search rules) (λ c. search rules) (λ c. search rules)
     (λ c. first_accepted _ (search rules) _ (search rules) (search rules) (search rules))

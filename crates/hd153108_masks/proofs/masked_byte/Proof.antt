@@ -14,7 +14,7 @@ masked_byte_spec =
     (λ c.
     let a = c.before.args in
     let on = masked_on 8 0 a.read a.blink a.byte (255 - a.read) (omega arith) (omega arith) in
-    rw (c.if1.true, on, masked_off 8 a.read a.blink a.byte)) (λ c. search rules)
+    rw (c.if-off.true, on, masked_off 8 a.read a.blink a.byte)) (λ c. search rules)
     (λ c.
     let a = c.before.args in
-    rw (c.if1.false, masked_on 8 0 a.read a.blink a.byte (255 - a.read) (omega arith) (omega arith))))
+    rw (c.if-off.false, masked_on 8 0 a.read a.blink a.byte (255 - a.read) (omega arith) (omega arith))))

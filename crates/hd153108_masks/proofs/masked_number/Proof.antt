@@ -14,10 +14,10 @@ masked_number_spec =
     (λ c.
     let a = c.before.args in
     let on = masked_on 2 6 a.control (a.control / 4) a.number (255 - a.control) (omega arith) (omega arith) in
-    rw (c.if1.true, on, masked_off 2 a.control (a.control / 4) a.number)) (λ c. search rules)
+    rw (c.if-off.true, on, masked_off 2 a.control (a.control / 4) a.number)) (λ c. search rules)
     (λ c.
     let a = c.before.args in
     rw (
-      c.if1.false,
+      c.if-off.false,
       masked_on 2 6 a.control (a.control / 4) a.number (255 - a.control) (omega arith) (omega arith),
     )))

@@ -4,4 +4,4 @@ use Rattle.hd153108_range.proofs.blink_off.Tie as tie
 
 pub blink_off_spec : {M : Type 1} → statement M
 unfolding is_off
-blink_off_spec = tie.close (tie.spec (λ c κs. search) (λ c. rw c.before.on-time.ensures))
+blink_off_spec = tie.close (tie.spec (λ c κs. search) (λ c. rw c.before.on_time.ensures))

@@ -9,10 +9,10 @@ use Rattle.hd153108.specs.Hd153108.{state_ranges}
 use Rattle.hd153108_range.proofs.good.Statement.{statement}
 use Rattle.hd153108_range.proofs.good.Tie as tie
 
-returns-5 : tie.Need-returns-5
+returns-5 : tie.Need-returns
 returns-5 c =
     let s = c.before.before.before.before.before.before.before.before.before.before.before.args.s in
-    let p = c.before.period-of.result in
+    let p = c.before.period_of.result in
     agree _ _
     (λ e. holds_meets (state_ranges s) (omega (arith, ltb-true s.clock.position p e)))
     (λ e. let g = meets_holds (state_ranges s) e in lt-ltb s.clock.position p (omega arith))
@@ -21,5 +21,5 @@ pub good_spec : {M : Type 1} → statement M
 good_spec =
     tie.close
     (tie.spec (λ c. sym (not_meets _ (λ g. omega arith))) (λ c. sym (not_meets _ (λ g. omega arith)))
-    (λ c. sym (not_meets _ (λ g. omega arith))) (λ c. sym (not_meets _ (λ g. search c.if4.true)))
+    (λ c. sym (not_meets _ (λ g. omega arith))) (λ c. sym (not_meets _ (λ g. search c.if-s-ne0.true)))
     (λ c κs. search) returns-5)

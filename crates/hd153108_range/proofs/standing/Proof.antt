@@ -11,10 +11,10 @@ use Rattle.hd153108_range.proofs.standing.Tie as tie
 pub standing_spec : {M : Type 1} → statement M
 standing_spec =
     tie.close
-    (tie.spec (λ c. stands_short _ (not_fails _ (λ g. search c.if1.true)))
-    (λ c. stands_short _ (not_fails _ (λ g. search c.if2.true))) (λ c κs. search)
+    (tie.spec (λ c. stands_short _ (not_fails _ (λ g. search c.if-colours-ne768.true)))
+    (λ c. stands_short _ (not_fails _ (λ g. search c.if-overlays-ne12.true))) (λ c κs. search)
     (λ c.
     stands_outside (holds_passes _ (search))
-    (misses_fails _ (sym c.before.good2.ensures ∙ not-true _ c.if3.true)))
+    (misses_fails _ (sym c.before.good2.ensures ∙ not-true _ c.if-not-good.true)))
     (λ c.
-    stands (holds_passes _ (search)) (meets_passes _ (sym c.before.good2.ensures ∙ not-false _ c.if3.false))))
+    stands (holds_passes _ (search)) (meets_passes _ (sym c.before.good2.ensures ∙ not-false _ c.if-not-good.false))))

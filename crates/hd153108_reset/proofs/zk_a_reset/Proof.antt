@@ -13,7 +13,7 @@ unfolding called_by
 returns c cs os =
     let zeroed =
     c.before.registers.ensures
-    ∙ ap (λ (s : State). registers s 0 0 0 (restarted 0)) c.before.before.port.ensures in
+    ∙ ap (λ (s : State). registers s 0 0 0 (restarted 0)) c.before.before.port-zeroed.ensures in
     ap (λ (a : Answer). outcome a cs os) (c.accepted.ensures ∙ ap (accept 0) zeroed) ∙ goes_on [] 0 _ _ tt
 
 pub zk_a_reset_spec : {M : Type 1} → statement M

@@ -7,4 +7,4 @@ pub byte_spec : {M : Type 1} → statement M
 byte_spec =
     tie.close
     (tie.spec (λ c. search) (λ c. search)
-    (λ c. sym (get_or-eq_default c.before.args.s.now 0 c.if1.false)))
+    (λ c. sym (get_or-eq_default c.before.args.s.now 0 c.if-i-s.false)))

@@ -10,4 +10,4 @@ nibble_spec =
     tie.close
     (tie.spec (λ c. search values) (λ c. search rules) (λ c. search rules) (λ c. search values) (λ c. search values)
     (λ c. search rules) (λ c. search rules)
-    (λ c. (value_high _ c.before.if3.false c.if4.true, search rules)) (λ c. search values))
+    (λ c. (value_high _ c.before.if-b-le96.false c.if-b-le102.true, search rules)) (λ c. search values))

@@ -17,17 +17,17 @@ decreases-loop t i width v₀ w₀ v w = width - w
 
 mul-v : tie.Need-overflow-mul-v invariant-loop decreases-loop
 mul-v c =
-    let l = c.before.loop in
+    let l = c.before.loop-w in
     record { fits = omega (arith, number_fits 7 l.w _ _ l.invariant.1 (omega arith)) }
 
 add-v : tie.Need-overflow-add-v invariant-loop decreases-loop
 add-v c =
-    let l = c.before.before.before.loop in
+    let l = c.before.before.before.loop-w in
     record { fits = omega (arith, number_fits 7 l.w _ _ l.invariant.1 (omega arith)) }
 
 returns : tie.Need-returns invariant-loop decreases-loop
 returns c =
-    let l = c.before.loop in
+    let l = c.before.loop-w in
     let all : l.w ≡ c.before.before.before.args.width = omega arith in
     rw (sym all) l.invariant.1
 

@@ -7,16 +7,16 @@ use borrow.Author.Rules.{rules}
 use Rattle.ms622424_entry.proofs.entry.Statement.{statement}
 use Rattle.ms622424_entry.proofs.entry.Tie as tie
 
-returns-4 : tie.Need-returns-4
+returns-4 : tie.Need-returns-in_default
 returns-4 c =
     let last : c.before.args.mode
-    ≡ 3 = omega (arith, c.match.rest.0.0.1, c.match.rest.0.1, c.match.rest.1) in
+    ≡ 3 = omega (arith, c.in-0.rest.0.0.1, c.in-0.rest.0.1, c.in-0.rest.1) in
     (omega arith, λ k e. entry_based 2 _ _ _ _ k last refl e)
 
 pub entry_spec : {M : Type 1} → statement M
 entry_spec =
     tie.close
     (tie.spec (λ c. search rules) (λ c. search rules) (λ c. search rules) (λ c. search rules) (λ c. search rules)
-    (λ c. search rules) (λ c. search rules) (λ c. (omega arith, λ k e. entry_index _ _ k c.match.keys1))
-    (λ c. (omega arith, λ k e. entry_based 0 _ _ _ _ k c.match.keys2 refl e))
-    (λ c. (omega arith, λ k e. entry_based 1 _ _ _ _ k c.match.keys3 refl e)) returns-4)
+    (λ c. search rules) (λ c. search rules) (λ c. (omega arith, λ k e. entry_index _ _ k c.in-0.keys1))
+    (λ c. (omega arith, λ k e. entry_based 0 _ _ _ _ k c.in-0.keys2 refl e))
+    (λ c. (omega arith, λ k e. entry_based 1 _ _ _ _ k c.in-0.keys3 refl e)) returns-4)

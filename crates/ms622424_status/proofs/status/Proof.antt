@@ -11,10 +11,10 @@ returns c =
     let filled = c.before.before.before in
     let empty = filled.before.before in
     rw (
-      c.before.choose4.ensures.0,
-      filled.choose3.ensures.0,
-      empty.choose2.ensures.0,
-      empty.before.before.choose.ensures.0,
+      c.before.choose-full.ensures.0,
+      filled.choose-filled.ensures.0,
+      empty.choose-empty.ensures.0,
+      empty.before.before.choose-mark.ensures.0,
     )
 
 pub status_spec : {M : Type 1} → statement M

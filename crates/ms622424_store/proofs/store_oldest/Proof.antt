@@ -8,33 +8,33 @@ use borrow.Author.Rules.{rules}
 use Rattle.ms622424_store.proofs.store_oldest.Statement.{statement}
 use Rattle.ms622424_store.proofs.store_oldest.Tie as tie
 
-store-row-requires : tie.Need-store-row-requires
+store-row-requires : tie.Need-store_row-requires
 store-row-requires c κs =
     let start = c.before.before.before.before in
     ((start.requires.0.0, start.requires.0.1, omega arith), start.requires.1)
 
-store-row-requires-2 : tie.Need-store-row-requires-2
+store-row-requires-2 : tie.Need-store_row-moved-requires
 store-row-requires-2 c κs =
     let start = c.before.before.before.before in (
       (start.requires.0.0, start.requires.0.1, omega arith),
       λ i l. low_at start.args.queue.now (omega arith) (start.requires.1 i (omega arith)),
     )
 
-store-row-requires-3 : tie.Need-store-row-requires-3
+store-row-requires-3 : tie.Need-store_row-requires-2
 store-row-requires-3 c κs =
     let start = c.before.before.before.before.before.before.before.before in
     let a = start.args in (
-      (c.before.before.before.store-row2.auto.1.1.1.1.0 ∙ start.requires.0.0, start.requires.0.1, omega arith),
+      (c.before.before.before.store_row-moved.auto.1.1.1.1.0 ∙ start.requires.0.0, start.requires.0.1, omega arith),
       λ i l. low_at a.queue.now (omega arith) (start.requires.1 (64 - a.first + i) (omega arith)),
     )
 
-returns-2 : tie.Need-returns-2
+returns-2 : tie.Need-returns
 returns-2 c =
     let one = c.before.before.before.before.before.before in
     let two = c.before.before in
     let a = one.before.before.before.before.before.args in (
       omega arith,
-      row_joined a.first _ _ a.queue.now a.map.now one.store-row2.ensures.1 two.store-row3.ensures.1
+      row_joined a.first _ _ a.queue.now a.map-1.now one.store_row-moved.ensures.1 two.store_row-2.ensures.1
           (λ z. omega arith),
     )
 

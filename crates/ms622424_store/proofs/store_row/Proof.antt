@@ -20,8 +20,8 @@ abbrev decreases-loop : tie.decreases-loop
 decreases-loop from waiting slots queue map₀ moved₀ map moved = slots - moved
 
 -- stores keep the map's length, which each of them asks, and the return
-kept : (c : tie.At-loop invariant-loop decreases-loop) → length c.loop.map ≡ length c.before.before.before.args.map.now
-kept c = ap length c.loop.invariant.2 ∙ all_stored_length _ _
+kept : (c : tie.At-loop invariant-loop decreases-loop) → length c.loop-moved.map-1 ≡ length c.before.before.before.args.map-1.now
+kept c = ap length c.loop-moved.invariant.2 ∙ all_stored_length _ _
 
 store-requires : tie.Need-store-requires invariant-loop decreases-loop
 store-requires c κs =
@@ -29,17 +29,17 @@ store-requires c κs =
     let at = c.before.before.before.before in (
       kept at ∙ start.requires.0.0,
       low_at start.args.queue.now (omega arith)
-          (start.requires.1 at.loop.moved (omega arith)),
+          (start.requires.1 at.loop-moved.moved (omega arith)),
     )
 
-loop-again : tie.Need-loop-preserved invariant-loop decreases-loop
+loop-again : tie.Need-loop-moved-preserved invariant-loop decreases-loop
 loop-again c =
     let at = c.before.before.before.before.before.before.before in
     let a = at.before.before.before.args in (
       omega arith,
       omega arith,
-      stored_next a.from a.queue.now _ at.loop.moved (omega arith) c.before.before.store.ensures
-          at.loop.invariant.2,
+      stored_next a.from a.queue.now _ at.loop-moved.moved (omega arith) c.before.before.store.ensures
+          at.loop-moved.invariant.2,
     )
 
 pub store_row_spec : {M : Type 1} → statement M

@@ -10,20 +10,20 @@ use Rattle.rgb640.specs.Rgb640.{whole, state_ranges}
 use Rattle.rgb640_range.proofs.standing_of.Statement.{statement}
 use Rattle.rgb640_range.proofs.standing_of.Tie as tie
 
-returns : tie.Need-returns
-returns c = sym (refusal_is (standing _ _) [] lent_length _ refl tt (not_fails (whole _) (λ g. c.if1.true g.0)))
+returns : tie.Need-returns-then-size-ne3072
+returns c = sym (refusal_is (standing _ _) [] lent_length _ refl tt (not_fails (whole _) (λ g. c.if-size-ne3072.true g.0)))
 
-returns-2 : tie.Need-returns-2
+returns-2 : tie.Need-returns-then-not-in_range
 returns-2 c =
     sym (refusal_is (standing _ _) (lent_length ∷ []) out_of_range _ refl
-    (holds_passes (whole _) (c.before.before.if1.false, tt), tt)
-    (misses_fails (state_ranges _) (sym c.before.in-range.ensures ∙ not-true _ c.if2.true)))
+    (holds_passes (whole _) (c.before.before.if-size-ne3072.false, tt), tt)
+    (misses_fails (state_ranges _) (sym c.before.in_range.ensures ∙ not-true _ c.if-not-in_range.true)))
 
-returns-3 : tie.Need-returns-3
+returns-3 : tie.Need-returns
 returns-3 c =
     sym (refusal_none (standing _ _) (
-      holds_passes (whole _) (c.before.before.if1.false, tt),
-      (meets_passes (state_ranges _) (sym c.before.in-range.ensures ∙ not-false _ c.if2.false), tt),
+      holds_passes (whole _) (c.before.before.if-size-ne3072.false, tt),
+      (meets_passes (state_ranges _) (sym c.before.in_range.ensures ∙ not-false _ c.if-not-in_range.false), tt),
     ))
 
 pub standing_of_spec : {M : Type 1} → statement M
