@@ -9,14 +9,14 @@ ghost use Rattle.std.specs.Prelude.{[]};
 ghost use Rattle.answers.specs.Answers.{Says, ok_text, bad_text};
 
 // A line's bytes, of which the first `len` count.
-#[derive(Drop)]
+#[derive(Clone, Copy)]
 pub struct Text {
     pub bytes: [u8; 16],
     pub len: usize,
 }
 
 // What an accepted call tells, where it tells something.
-#[derive(Drop)]
+#[derive(Clone, Copy)]
 pub enum News {
     Moved(u16),
     Value(u8),

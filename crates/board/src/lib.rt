@@ -14,7 +14,7 @@ use ms622424_places::State as BState;
 use rgb640::State as CState;
 
 // The three chips' states, and the chip chosen last.
-#[derive(Drop)]
+#[derive(Clone, Copy)]
 pub struct Board {
     pub a: AState,
     pub b: BState,
@@ -23,7 +23,7 @@ pub struct Board {
 }
 
 // A board after a line, and the answer: a text, and behind it so many of the page's first bytes.
-#[derive(Drop)]
+#[derive(Clone, Copy)]
 pub struct Step {
     pub board: Board,
     pub text: Text,

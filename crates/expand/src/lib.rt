@@ -8,7 +8,7 @@
 ghost use Rattle.std.specs.Prelude.{◌≡◌};
 ghost use Rattle.expand.specs.Expand.{ten};
 
-#[derive(Drop)]
+#[derive(Clone, Copy)]
 pub enum Expanded {
     Ten(u16),
     Refused,

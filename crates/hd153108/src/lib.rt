@@ -11,7 +11,7 @@
 
 // The blink clock: the Blink Timing Register, and the ticks passed in its period.
 #[repr(C)]
-#[derive(Drop)]
+#[derive(Clone, Copy)]
 pub struct Clock {
     pub timing: u8,
     pub position: u8,
@@ -19,7 +19,7 @@ pub struct Clock {
 
 // The Address Register and the R.G.B pointer, latched red and green, the registers.
 #[repr(C)]
-#[derive(Drop)]
+#[derive(Clone, Copy)]
 pub struct State {
     pub address: u8,
     pub pointer: u8,
@@ -33,7 +33,7 @@ pub struct State {
 
 // What a call answers: refusal (0 for none), value, and the state after it.
 #[repr(C)]
-#[derive(Drop)]
+#[derive(Clone, Copy)]
 pub struct Answer {
     pub refusal: u8,
     pub value: u8,

@@ -14,7 +14,7 @@ use hd153108::State;
 use hd153108_masks::{masked_byte, masked_number};
 
 // What a pixel shows: an entry of one of the tables; or its refusal.
-#[derive(Drop)]
+#[derive(Clone, Copy)]
 pub enum Pick {
     Colour(usize),
     Overlay(usize),

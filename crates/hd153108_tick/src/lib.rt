@@ -13,14 +13,14 @@ use hd153108_range::period_of;
 
 // What a blink step answers.
 #[repr(C)]
-#[derive(Drop)]
+#[derive(Clone, Copy)]
 pub struct ClockAnswer {
     pub refusal: u8,
     pub clock: Clock,
 }
 
 // The blink position after a tick.
-#[derive(Drop)]
+#[derive(Clone, Copy)]
 struct Next {
     position: u8,
     refusal: u8,

@@ -12,14 +12,14 @@ ghost use Rattle.hold.specs.Hold.{hold as held, holding, before, held_of};
 use port_log::Line;
 
 // How many bytes stand before the first LF, and how many are held then.
-#[derive(Drop)]
+#[derive(Clone, Copy)]
 pub struct Span {
     pub before: usize,
     pub len: usize,
 }
 
 // What the held bytes say, whether they are a whole line, how many are held on, and how many of the text were taken.
-#[derive(Drop)]
+#[derive(Clone, Copy)]
 pub struct Heard {
     pub line: Line,
     pub ends: bool,

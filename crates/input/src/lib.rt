@@ -12,7 +12,7 @@ use libc::STDIN_FILENO;
 
 // How many bytes were read, and how many of those were taken; how many of the output wait; and the turns that are left,
 // none once the input ended.
-#[derive(Drop)]
+#[derive(Clone, Copy)]
 pub struct Input {
     pub got: usize,
     pub at: usize,

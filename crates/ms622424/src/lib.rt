@@ -11,7 +11,7 @@
 
 // What data accesses move: the address, the RGB counter, and the Color Buffer Register.
 #[repr(C)]
-#[derive(Drop)]
+#[derive(Clone, Copy)]
 pub struct Port {
     pub address: u16,
     pub counter: u8,
@@ -21,7 +21,7 @@ pub struct Port {
 
 // The Command Register, and read mode.
 #[repr(C)]
-#[derive(Drop)]
+#[derive(Clone, Copy)]
 pub struct Control {
     pub command: u8,
     pub readmode: u8,
@@ -29,7 +29,7 @@ pub struct Control {
 
 // The Revision Register's two numbers.
 #[repr(C)]
-#[derive(Drop)]
+#[derive(Clone, Copy)]
 pub struct Ident {
     pub revision: u8,
     pub board: u8,

@@ -9,7 +9,7 @@ use ms622424::{Control, Ident, Port};
 
 // Which place of the lent queue is first, and how many entries wait from there on.
 #[repr(C)]
-#[derive(Drop)]
+#[derive(Clone, Copy)]
 pub struct Fifo {
     pub first: u8,
     pub waiting: u8,
@@ -17,7 +17,7 @@ pub struct Fifo {
 
 // The registers, and how the lent queue stands.
 #[repr(C)]
-#[derive(Drop)]
+#[derive(Clone, Copy)]
 pub struct State {
     pub port: Port,
     pub control: Control,
@@ -27,7 +27,7 @@ pub struct State {
 
 // What a call answers, with the state after it: the refusal, 0 for none, the value read, the entries moved.
 #[repr(C)]
-#[derive(Drop)]
+#[derive(Clone, Copy)]
 pub struct Answer {
     pub refusal: u8,
     pub value: u8,
@@ -36,7 +36,7 @@ pub struct Answer {
 }
 
 // What transfers leave: how many entries they moved, and the state.
-#[derive(Drop)]
+#[derive(Clone, Copy)]
 pub struct Moved {
     pub count: u8,
     pub state: State,

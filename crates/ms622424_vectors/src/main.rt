@@ -25,7 +25,7 @@ use libc::STDIN_FILENO;
 use ms622424_places::State;
 
 // The chip's state, and how many places of the queue and bytes of the map are lent.
-#[derive(Drop)]
+#[derive(Clone, Copy)]
 struct Bench {
     state: State,
     places: usize,

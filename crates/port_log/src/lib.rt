@@ -6,7 +6,7 @@
 #![tactic(auto)]
 
 // The chip that a line chooses.
-#[derive(Drop)]
+#[derive(Clone, Copy)]
 pub enum Chip {
     ChipA,
     ChipB,
@@ -14,14 +14,14 @@ pub enum Chip {
 }
 
 // A call that chip A alone has.
-#[derive(Drop)]
+#[derive(Clone, Copy)]
 pub enum CallA {
     Tick,
     Pixel(u8, u8, u8),
 }
 
 // A call that chip B alone has.
-#[derive(Drop)]
+#[derive(Clone, Copy)]
 pub enum CallB {
     Pixel(u8, u32),
     Blank(u32),
@@ -29,7 +29,7 @@ pub enum CallB {
 }
 
 // A call on the chip chosen last.
-#[derive(Drop)]
+#[derive(Clone, Copy)]
 pub enum Call {
     Write(u8, u8),
     Read(u8),
@@ -40,7 +40,7 @@ pub enum Call {
 }
 
 // What a line asks for.
-#[derive(Drop)]
+#[derive(Clone, Copy)]
 pub enum Line {
     To(Call),
     Choose(Chip),

@@ -13,7 +13,7 @@ use feed_take::Fed;
 use input::Input;
 
 // The board, how many bytes of a line are held, and the input.
-#[derive(Drop)]
+#[derive(Clone, Copy)]
 struct Stand {
     board: Board,
     len: usize,

@@ -12,7 +12,7 @@
 
 // A colour of ten bits a component.
 #[repr(C)]
-#[derive(Drop)]
+#[derive(Clone, Copy)]
 pub struct Colour {
     pub red: u16,
     pub green: u16,
@@ -21,7 +21,7 @@ pub struct Colour {
 
 // The index, the latches, the fetched entry, the place in the order (0 red, 1 green, 2 blue) and register 0x000E.
 #[repr(C)]
-#[derive(Drop)]
+#[derive(Clone, Copy)]
 pub struct State {
     pub index: u16,
     pub red: u16,
@@ -33,7 +33,7 @@ pub struct State {
 
 // What a call answers: the refusal (0 for none), the byte read, and the state afterwards.
 #[repr(C)]
-#[derive(Drop)]
+#[derive(Clone, Copy)]
 pub struct Answer {
     pub refusal: u8,
     pub value: u8,

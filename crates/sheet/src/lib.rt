@@ -10,14 +10,14 @@
 ghost use Rattle.sheet.specs.Sheet.{Tells};
 
 // A key's line: there with its value, or missing.
-#[derive(Drop)]
+#[derive(Clone, Copy)]
 pub enum Line {
     Has(u16),
     Missing,
 }
 
 // What a call on a buffer answers: how much it wrote; or its refusal, and the line that a malformed sheet's tells.
-#[derive(Drop)]
+#[derive(Clone, Copy)]
 pub enum Answer {
     Done(u16),
     Refused(u8, u16),

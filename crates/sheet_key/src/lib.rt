@@ -11,7 +11,7 @@ ghost use Rattle.sheet_key.specs.Reader.{named, Right};
 use sheet::Line;
 
 // What a line says: its key, its value and the place behind it; or it is bad.
-#[derive(Drop)]
+#[derive(Clone, Copy)]
 pub enum Found {
     At(u16, u16, usize),
     Bad,

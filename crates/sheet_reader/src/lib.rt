@@ -13,7 +13,7 @@ use sheet_key::Found;
 
 // What was read: the number of the first bad or missing line, and nothing kept, 4,096 for every key; or 0, and each
 // key's value, 4,096 where it is missing.
-#[derive(Drop)]
+#[derive(Clone, Copy)]
 pub struct Sheet {
     pub bad: u16,
     pub kept: [u16; 265],

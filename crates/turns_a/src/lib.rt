@@ -15,7 +15,7 @@ use hd153108::{Answer, State};
 use port_log::{Call, CallA};
 
 // Chip A after a call, and the answer.
-#[derive(Drop)]
+#[derive(Clone, Copy)]
 pub struct ATurn {
     pub state: State,
     pub text: Text,

@@ -17,7 +17,7 @@ use port_log::{Call, CallB};
 use ms622424_places::{Answer, State};
 
 // Chip B after a call, and the answer.
-#[derive(Drop)]
+#[derive(Clone, Copy)]
 pub struct BTurn {
     pub state: State,
     pub text: Text,

@@ -15,7 +15,7 @@ use port_log::Call;
 use rgb640::{Answer, State};
 
 // Chip C after a call, and the answer.
-#[derive(Drop)]
+#[derive(Clone, Copy)]
 pub struct CTurn {
     pub state: State,
     pub text: Text,

@@ -15,7 +15,7 @@ const PATCH: u8 = 0;
 
 // The three numbers as digits with dots between, and zeros behind.
 #[repr(C)]
-#[derive(Drop)]
+#[derive(Clone, Copy)]
 pub struct Text {
     pub text: [u8; 8],
 }

@@ -9,18 +9,18 @@ use borrow.Author.Rules.{rules}
 use Rattle.hex_number.proofs.spelt.Statement.{statement}
 use Rattle.hex_number.proofs.spelt.Tie as tie
 
-abbrev invariant-loop : tie.invariant-loop
+abbrev invariant-loop : tie.invariant-loop-w
 invariant-loop t i width v₀ w₀ v w = (w ≤ width) × (v ≡ number w i t)
 
-abbrev decreases-loop : tie.decreases-loop
+abbrev decreases-loop : tie.decreases-loop-w
 decreases-loop t i width v₀ w₀ v w = width - w
 
-mul-v : tie.Need-overflow-mul-v invariant-loop decreases-loop
+mul-v : tie.Need-overflow_mul-v invariant-loop decreases-loop
 mul-v c =
     let l = c.before.loop-w in
     record { fits = omega (arith, number_fits 7 l.w _ _ l.invariant.1 (omega arith)) }
 
-add-v : tie.Need-overflow-add-v invariant-loop decreases-loop
+add-v : tie.Need-overflow_add-v invariant-loop decreases-loop
 add-v c =
     let l = c.before.before.before.loop-w in
     record { fits = omega (arith, number_fits 7 l.w _ _ l.invariant.1 (omega arith)) }
