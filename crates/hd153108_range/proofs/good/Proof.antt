@@ -9,7 +9,7 @@ use Rattle.hd153108.specs.Hd153108.{state_ranges}
 use Rattle.hd153108_range.proofs.good.Statement.{statement}
 use Rattle.hd153108_range.proofs.good.Tie as tie
 
-returns-5 : tie.Need-returns
+returns-5 : tie.Need-returns-then-s-ge3
 returns-5 c =
     let s = c.before.before.before.before.before.before.before.before.before.before.before.args.s in
     let p = c.before.period_of.result in
