@@ -8,5 +8,5 @@ unfolding stepped
 stepped_spec =
     tie.close
     (tie.spec (λ c κs. search) (λ c κs. search) (λ c κs. search)
-    (λ c. rw (is_red _ c.before.match.keys1) (search)) (λ c. rw (is_green _ c.before.match.keys2) (search))
-    (λ c. let ((_, r), g) = c.before.match.rest in rw (is_blue _ r g) (search)))
+    (λ c. rw (is_red _ c.before.in-0.keys1) (search)) (λ c. rw (is_green _ c.before.in-0.keys2) (search))
+    (λ c. let ((_, r), g) = c.before.in-0.rest in rw (is_blue _ r g) (search)))

@@ -9,7 +9,7 @@ unfolding stepped latched stored
 data_write_spec =
     tie.close
     (tie.spec (λ c κs. search rules) (λ c κs. search rules) (λ c κs. search rules) (λ c κs. search rules)
-    (λ c. rw (is_red _ c.before.match.keys1) (search rules))
-    (λ c. rw (is_green _ c.before.match.keys2) (search rules)) (λ c. search rules)
+    (λ c. rw (is_red _ c.before.in-0.keys1) (search rules))
+    (λ c. rw (is_green _ c.before.in-0.keys2) (search rules)) (λ c. search rules)
     (λ c.
-    let ((_, r), g) = c.before.before.before.before.before.match.rest in rw (is_blue _ r g) (search rules)))
+    let ((_, r), g) = c.before.before.before.before.before.in-0.rest in rw (is_blue _ r g) (search rules)))
