@@ -10,21 +10,21 @@ use Rattle.ms622424_write.proofs.zk_b_write.Tie as tie
 
 -- the chip as the call finds it, and what is known past what is tried first
 abbrev given : tie.Start → Chip
-given c = view (handed c.args.s c.args.queue.now c.args.map.now)
+given c = view (handed c.args.s c.args.queue-1.now c.args.map-1.now)
 
-known : (c : tie.Else1) → InRange (given c.before.before.before.before.before)
-known c = past _ c.before.standing-tables.ensures c.if1.false
+known : (c : tie.Else-refusal-ne0) → InRange (given c.before.before.before.before.before)
+known c = past _ c.before.standing_tables-refusal.ensures c.if-refusal-ne0.false
 
 -- the command's arm, and the one where the read mode begins
-returns-5 : tie.Need-returns-5
-returns-5 c = rw c.before.match.keys4 (c.set-command.ensures _ _ (known c.before.before))
+returns-5 : tie.Need-returns-in-3
+returns-5 c = rw c.before.in-0.keys4 (c.set_command.ensures _ _ (known c.before.before))
 
-returns-6 : tie.Need-returns-6
+returns-6 : tie.Need-returns-in-7
 unfolding register_at writable written
 returns-6 c =
     let d = c.before.before.before.before in
     accepts _ _ _ _ _ _ _ c.accepted.ensures
-    (write_does _ _ _ (known d.before) (search rules) 7 d.match.keys5 refl refl refl)
+    (write_does _ _ _ (known d.before) (search rules) 7 d.in-0.keys5 refl refl refl)
 
 pub zk_b_write_spec : {M : Type 1} → statement M
 zk_b_write_spec =
@@ -32,15 +32,15 @@ zk_b_write_spec =
     (tie.spec (λ c κs. search rules) (λ c κs. search rules) (λ c. search rules)
     (λ c.
     refuses _ _ _ _ _ c.refused.ensures
-    (tried _ _ _ refl refl c.before.before.standing-tables.ensures c.before.if1.true))
+    (tried _ _ _ refl refl c.before.before.standing_tables-refusal.ensures c.before.if-refusal-ne0.true))
     (λ c κs. search rules) (λ c κs. search rules) (λ c κs. known c.before.before.before) (λ c κs. search rules)
     (λ c κs. search rules) (λ c κs. search rules) (λ c. search rules)
-    (λ c. rw c.before.match.keys1 (c.set-address-low.ensures _ _ (known c.before.before)))
+    (λ c. rw c.before.in-0.keys1 (c.set_address_low.ensures _ _ (known c.before.before)))
     (λ c. search rules)
-    (λ c. rw c.before.match.keys2 (c.set-address-high.ensures _ _ (known c.before.before)))
+    (λ c. rw c.before.in-0.keys2 (c.set_address_high.ensures _ _ (known c.before.before)))
     (λ c. search rules) (λ c. search rules)
     (λ c.
     let d = c.before.before.before.before in
-    rw d.before.before.before.match.keys3 d.write-palette.ensures)
+    rw d.before.before.before.in-0.keys3 d.write_palette.ensures)
     (λ c. search rules) returns-5 (λ c. search rules) returns-6 (λ c. search rules)
-    (λ c. refuses _ _ _ _ _ c.refused2.ensures (search (known, not_written, rules))))
+    (λ c. refuses _ _ _ _ _ c.refused-in_default.ensures (search (known, not_written, rules))))
