@@ -11,10 +11,8 @@ use Rattle.ms622424_range.proofs.in_range.Tie as tie
 
 returns-7 : tie.Need-returns
 returns-7 c =
-    let last = c.before.before.before.before.before.before.before in
-    let a = last.before.before.before.before.before.before.before.args in
     c.queue_in_range.ensures
-    ∙ queue_decides (view (handed a.s a.queue.now [])) (omega arith) (omega arith) (omega arith) (omega arith)
+    ∙ queue_decides (view (handed c.args.s c.args.queue.now [])) (omega arith) (omega arith) (omega arith) (omega arith)
     (omega arith) (omega arith) (omega arith) (omega arith)
 
 pub in_range_spec : {M : Type 1} → statement M
