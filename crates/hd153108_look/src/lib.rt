@@ -57,8 +57,7 @@ fn look_at(s: State, place: u32, colours: &[u8], overlays: &[u8]) -> Looked
 }
 
 // A look at a place.
-#[unsafe(no_mangle)]
-pub extern "C" fn zk_a_look(s: State, place: u32, colours: &[u8], overlays: &[u8]) -> Looked
+pub fn zk_a_look(s: State, place: u32, colours: &[u8], overlays: &[u8]) -> Looked
     ensures { looking result (chip s colours.now overlays.now)
         ≡ called (looks place) (chip s colours.now overlays.now) }
 {

@@ -29,8 +29,7 @@ fn shown_at(t: &[u8], e: usize) -> Shown
 }
 
 // The pixel for C, with the three bytes copied.
-#[unsafe(no_mangle)]
-pub extern "C" fn zk_a_pixel(
+pub fn zk_a_pixel(
     s: State,
     enable: u8,
     number: u8,

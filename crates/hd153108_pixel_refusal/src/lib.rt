@@ -11,8 +11,7 @@ use hd153108::State;
 use hd153108_shown::{Pick, picked};
 
 // The refusal of a pixel, 0 if none.
-#[unsafe(no_mangle)]
-pub extern "C" fn zk_a_pixel_refusal(
+pub fn zk_a_pixel_refusal(
     s: State,
     enable: u8,
     number: u8,

@@ -13,8 +13,7 @@ use hd153108_port::{accepted, next_colour, next_overlay, port, refused};
 use hd153108_range::standing;
 
 // A read access. An address read sets the pointer to red, and a data read steps it.
-#[unsafe(no_mangle)]
-pub extern "C" fn zk_a_read(s: State, select: u8, colours: &[u8], overlays: &[u8]) -> Answer
+pub fn zk_a_read(s: State, select: u8, colours: &[u8], overlays: &[u8]) -> Answer
     ensures { outcome result colours.now overlays.now
         ≡ called (reads select) (chip s colours.now overlays.now) }
 {

@@ -11,8 +11,7 @@ use hd153108::{Answer, Clock, State};
 use hd153108_port::{accepted, port, registers};
 
 // A reset, from any state at all, whatever the tables are.
-#[unsafe(no_mangle)]
-pub extern "C" fn zk_a_reset(s: State) -> Answer
+pub fn zk_a_reset(s: State) -> Answer
     ensures { (cs os : List ℕ) → outcome result cs os ≡ called resets (chip s cs os) }
 {
     let stopped = Clock {

@@ -44,8 +44,7 @@ fn step(timing: u8, position: u8) -> Next
 }
 
 // One tick more, by value.
-#[unsafe(no_mangle)]
-pub extern "C" fn zk_a_step(k: Clock) -> ClockAnswer
+pub fn zk_a_step(k: Clock) -> ClockAnswer
     ensures { clock_outcome result.refusal result.clock ≡ tick k }
 {
     let timing = k.timing;
@@ -61,8 +60,7 @@ pub extern "C" fn zk_a_step(k: Clock) -> ClockAnswer
 }
 
 // One tick more, on a lent clock; where it is refused the clock stays as it is.
-#[unsafe(no_mangle)]
-pub extern "C" fn zk_a_tick(k: &mut Clock) -> u8
+pub fn zk_a_tick(k: &mut Clock) -> u8
     ensures { clock_outcome result k.new ≡ tick k.old }
 {
     let next = step(k.timing, k.position);

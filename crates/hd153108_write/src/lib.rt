@@ -14,8 +14,7 @@ use hd153108_port::{accepted, next_colour, next_overlay, refused};
 use hd153108_range::standing;
 
 // A write access. The colours or the overlays change at an accepted blue data write alone.
-#[unsafe(no_mangle)]
-pub extern "C" fn zk_a_write(
+pub fn zk_a_write(
     s: State,
     select: u8,
     byte: u8,

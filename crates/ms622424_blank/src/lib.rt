@@ -12,8 +12,7 @@ use ms622424_port::{accepted, refused};
 
 // A blanking period of so many slots: each moves the oldest waiting entry, if one waits, into the map, and
 // the first position steps past it.
-#[unsafe(no_mangle)]
-pub extern "C" fn zk_b_blank(s: State, slots: u32, queue: &[u64], map: &mut [u8]) -> Answer
+pub fn zk_b_blank(s: State, slots: u32, queue: &[u64], map: &mut [u8]) -> Answer
     ensures { Does (handed s queue.now map.old)
         (outcome result queue.now map.new) (called (blanks slots)) }
 {

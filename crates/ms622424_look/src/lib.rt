@@ -53,8 +53,7 @@ fn look_at(s: State, place: u32, queue: &[u64], map: &[u8]) -> Looked
 }
 
 // A look at a place.
-#[unsafe(no_mangle)]
-pub extern "C" fn zk_b_look(s: State, place: u32, queue: &[u64], map: &[u8]) -> Looked
+pub fn zk_b_look(s: State, place: u32, queue: &[u64], map: &[u8]) -> Looked
     ensures { looking result (view (handed s queue.now map.now))
         ≡ called (looks place) (view (handed s queue.now map.now)) }
 {

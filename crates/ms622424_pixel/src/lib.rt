@@ -27,8 +27,7 @@ fn refused(refusal: u8) -> Shown
 }
 
 // The colour of a pixel.
-#[unsafe(no_mangle)]
-pub extern "C" fn zk_b_pixel(s: State, mode: u8, word: u32, queue: &[u64], map: &[u8]) -> Shown
+pub fn zk_b_pixel(s: State, mode: u8, word: u32, queue: &[u64], map: &[u8]) -> Shown
     ensures { showing result (view (handed s queue.now map.now))
         ≡ called (pixels mode word) (view (handed s queue.now map.now)) }
 {

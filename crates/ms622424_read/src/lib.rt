@@ -11,8 +11,7 @@ use ms622424_places::{Answer, State};
 use ms622424_port::{accepted, refused};
 
 // A read of a select.
-#[unsafe(no_mangle)]
-pub extern "C" fn zk_b_read(s: State, select: u8, queue: &[u64], map: &[u8]) -> Answer
+pub fn zk_b_read(s: State, select: u8, queue: &[u64], map: &[u8]) -> Answer
     ensures { Does (handed s queue.now map.now)
         (outcome result queue.now map.now) (called (reads select)) }
 {

@@ -13,8 +13,7 @@ use ms622424_places::{Answer, Fifo, State};
 use ms622424_port::{accepted, refused};
 
 // A reset. It is lent no map, and so keeps it; the queue is empty, whatever its places hold.
-#[unsafe(no_mangle)]
-pub extern "C" fn zk_b_reset(s: State, queue: &[u64]) -> Answer
+pub fn zk_b_reset(s: State, queue: &[u64]) -> Answer
     ensures { (m : List ℕ)
         → Does (handed s queue.now m) (outcome result queue.now m) (called resets) }
 {

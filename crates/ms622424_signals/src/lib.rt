@@ -19,8 +19,7 @@ fn piped(command: u8, signals: u8) -> u8
 }
 
 // The four timing signals. It is lent no map, since it reads none.
-#[unsafe(no_mangle)]
-pub extern "C" fn zk_b_sync(s: State, signals: u8, queue: &[u64]) -> Answer
+pub fn zk_b_sync(s: State, signals: u8, queue: &[u64]) -> Answer
     ensures { (m : List ℕ) → Does (handed s queue.now m) (outcome result queue.now m)
         (called (signalsCall signals)) }
 {

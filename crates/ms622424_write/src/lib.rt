@@ -12,8 +12,7 @@ use ms622424_places::{Answer, State};
 use ms622424_port::{accepted, refused};
 
 // A write of a byte to a select.
-#[unsafe(no_mangle)]
-pub extern "C" fn zk_b_write(
+pub fn zk_b_write(
     s: State,
     select: u8,
     byte: u8,

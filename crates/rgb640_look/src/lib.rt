@@ -49,8 +49,7 @@ fn look_at(s: State, place: u32, table: &[u16]) -> Looked
 }
 
 // A look at a place.
-#[unsafe(no_mangle)]
-pub extern "C" fn zk_c_look(s: State, place: u32, table: &[u16]) -> Looked
+pub fn zk_c_look(s: State, place: u32, table: &[u16]) -> Looked
     ensures { looking result (chip s table.now) ≡ called (looks place) (chip s table.now) }
 {
     let refusal = standing_of(s, table.len());

@@ -64,8 +64,7 @@ fn data_read(s: State, table: &[u16]) -> Answer
 }
 
 // A byte read from a port.
-#[unsafe(no_mangle)]
-pub extern "C" fn zk_c_read(s: State, port: u8, table: &[u16]) -> Answer
+pub fn zk_c_read(s: State, port: u8, table: &[u16]) -> Answer
     ensures { outcome result table.now ≡ called (reads port) (chip s table.now) }
 {
     let refusal = standing_of(s, table.len());

@@ -10,8 +10,7 @@ use rgb640::{Answer, Colour, State};
 use rgb640_port::accepted;
 
 // The chip after a reset: whatever the state was, it is zero. No table is lent, so that it stays.
-#[unsafe(no_mangle)]
-pub extern "C" fn zk_c_reset(s: State) -> Answer
+pub fn zk_c_reset(s: State) -> Answer
     ensures { (t : List ℕ) → outcome result t ≡ called resets (chip s t) }
 {
     let f = Colour {

@@ -30,9 +30,8 @@ fn data_write(s: State, byte: u8, table: &mut [u16]) -> Answer
 }
 
 // A byte written to a port.
-#[unsafe(no_mangle)]
 #[tactic(auto, using(crate::proofs::Arms::ends))]
-pub extern "C" fn zk_c_write(s: State, port: u8, byte: u8, table: &mut [u16]) -> Answer
+pub fn zk_c_write(s: State, port: u8, byte: u8, table: &mut [u16]) -> Answer
     ensures { outcome result table.new ≡ called (writes port byte) (chip s table.old) }
 {
     let refusal = standing_of(s, table.len());

@@ -29,8 +29,7 @@ pub fn sheet_calls(text: &[u8], out: &mut [u8]) -> Answer
 }
 
 // The same for C: refusal, count of calls and line in one number.
-#[unsafe(no_mangle)]
-pub extern "C" fn zk_sheet_to_calls(sheet: &[u8], out: &mut [u8]) -> u64
+pub fn zk_sheet_to_calls(sheet: &[u8], out: &mut [u8]) -> u64
     ensures { heard result out.new ≡ telling (sheet_to_calls sheet.now out.old) }
 {
     sheet::told(sheet_calls(sheet, out))
