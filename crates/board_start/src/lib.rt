@@ -18,7 +18,6 @@ use ms622424_places::State as BState;
 use rgb640::State as CState;
 
 // Chip A after its first reset, which reads nothing of the state before.
-#[tactic(auto, using(board::proofs::Resets::a_zeroed))]
 fn a_start() -> AState
     ensures { result ≡ a_zeroed }
 {
@@ -82,7 +81,6 @@ fn b_start(queue: &[u64]) -> BState
 }
 
 // Chip C after its first reset, which reads nothing of the state before either.
-#[tactic(auto, using(board::proofs::Resets::c_zeroed))]
 fn c_start() -> CState
     ensures { result ≡ c_zeroed }
 {
