@@ -45,13 +45,12 @@ fn told(board: Board, answer: Answer) -> Step
 }
 
 // Chip A's sheet on the page, or its refusal.
-#[tactic(auto, using(crate::proofs::Sheets::took_sheet))]
 fn list<'a>(board: Board, colours: &'a [u8], overlays: &'a [u8], page: &mut [u8]) -> Step
-    ensures by_index { (queue map table : List ℕ)
+    ensures took_turn { (queue map table : List ℕ)
         → StepTook result colours.now overlays.now queue map table page.new
         (sheet_turn chip_a
         (whole board colours.now overlays.now queue map table page.old)) }
-    ensures board_value { result.board ≡ board }
+    ensures same_board { result.board ≡ board }
 {
     told(
         board,
@@ -60,17 +59,13 @@ fn list<'a>(board: Board, colours: &'a [u8], overlays: &'a [u8], page: &mut [u8]
 }
 
 // The sheet of the chip that has one.
-#[tactic(auto, using(
-    crate::proofs::Sheets::took_list,
-    board::proofs::Steps::sheet_at,
-    crate::proofs::Sheets::took_bad
-))]
+#[tactic(auto, using(board::proofs::Steps::sheet_at, crate::proofs::Sheets::took_bad))]
 pub fn sheet<'a>(board: Board, colours: &'a [u8], overlays: &'a [u8], page: &mut [u8]) -> Step
-    ensures by_index { (queue map table : List ℕ)
+    ensures took_turn { (queue map table : List ℕ)
         → StepTook result colours.now overlays.now queue map table page.new
         (sheet_turn board.chosen
         (whole board colours.now overlays.now queue map table page.old)) }
-    ensures board_value { result.board ≡ board }
+    ensures same_board { result.board ≡ board }
 {
     let chosen = board.chosen;
     match chosen {
