@@ -73,7 +73,13 @@ fn alone<W: Write>(out: &mut W, s: State, line: &[u8]) -> io::Result<State> {
 }
 
 // A line that leaves the tables.
-fn asked<W: Write>(out: &mut W, s: State, line: &[u8], colours: &[u8], overlays: &[u8]) -> io::Result<State> {
+fn asked<W: Write>(
+    out: &mut W,
+    s: State,
+    line: &[u8],
+    colours: &[u8],
+    overlays: &[u8],
+) -> io::Result<State> {
     match script::command(line) {
         b'r' => show::read(out, s, line, colours, overlays),
         b'p' => show::pixel(out, s, line, colours, overlays),
@@ -84,7 +90,13 @@ fn asked<W: Write>(out: &mut W, s: State, line: &[u8], colours: &[u8], overlays:
     }
 }
 
-fn turn<W: Write>(out: &mut W, s: State, line: &[u8], colours: &mut [u8; 768], overlays: &mut [u8; 12]) -> io::Result<State> {
+fn turn<W: Write>(
+    out: &mut W,
+    s: State,
+    line: &[u8],
+    colours: &mut [u8; 768],
+    overlays: &mut [u8; 12],
+) -> io::Result<State> {
     match script::command(line) {
         b'w' => show::write(out, s, line, colours, overlays),
         b'x' => show::write(out, s, line, overlays, colours),
@@ -97,7 +109,13 @@ fn turn<W: Write>(out: &mut W, s: State, line: &[u8], colours: &mut [u8; 768], o
     }
 }
 
-fn run<W: Write>(out: &mut W, text: &[u8], mut s: State, colours: &mut [u8; 768], overlays: &mut [u8; 12]) -> io::Result<()> {
+fn run<W: Write>(
+    out: &mut W,
+    text: &[u8],
+    mut s: State,
+    colours: &mut [u8; 768],
+    overlays: &mut [u8; 12],
+) -> io::Result<()> {
     let mut at = 0;
     while at < text.len() {
         let to = script::end(text, at);
@@ -112,5 +130,11 @@ fn main(rt: HostRuntime) -> io::Result<()> {
     let n = script::read_full(&mut rt.stdin(), &mut text)?;
     let mut colours = [0u8; 768];
     let mut overlays = [0u8; 12];
-    run(&mut rt.stdout(), &text[..n], given(b""), &mut colours, &mut overlays)
+    run(
+        &mut rt.stdout(),
+        &text[..n],
+        given(b""),
+        &mut colours,
+        &mut overlays,
+    )
 }

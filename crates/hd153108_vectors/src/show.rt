@@ -16,15 +16,30 @@ fn answer<W: Write>(out: &mut W, a: Answer) -> io::Result<State> {
     Ok(s)
 }
 
-pub fn write<W: Write>(out: &mut W, s: State, line: &[u8], colours: &mut [u8], overlays: &mut [u8]) -> io::Result<State> {
+pub fn write<W: Write>(
+    out: &mut W,
+    s: State,
+    line: &[u8],
+    colours: &mut [u8],
+    overlays: &mut [u8],
+) -> io::Result<State> {
     let select = script::byte(line, 2);
     let byte = script::byte(line, 5);
     let numbers = [select, byte];
     fields(out, b"write select=% byte=%", &numbers)?;
-    answer(out, hd153108_write::zk_a_write(s, select, byte, colours, overlays))
+    answer(
+        out,
+        hd153108_write::zk_a_write(s, select, byte, colours, overlays),
+    )
 }
 
-pub fn read<W: Write>(out: &mut W, s: State, line: &[u8], colours: &[u8], overlays: &[u8]) -> io::Result<State> {
+pub fn read<W: Write>(
+    out: &mut W,
+    s: State,
+    line: &[u8],
+    colours: &[u8],
+    overlays: &[u8],
+) -> io::Result<State> {
     let select = script::byte(line, 2);
     let numbers = [select];
     fields(out, b"read select=%", &numbers)?;
@@ -100,7 +115,13 @@ pub fn entry<W: Write>(out: &mut W, s: State, line: &[u8], t: &[u8]) -> io::Resu
 }
 
 // A pixel: its refusal, and the part that it hands back.
-pub fn pixel<W: Write>(out: &mut W, s: State, line: &[u8], colours: &[u8], overlays: &[u8]) -> io::Result<State> {
+pub fn pixel<W: Write>(
+    out: &mut W,
+    s: State,
+    line: &[u8],
+    colours: &[u8],
+    overlays: &[u8],
+) -> io::Result<State> {
     let enable = script::byte(line, 2);
     let number = script::byte(line, 5);
     let byte = script::byte(line, 8);
@@ -108,13 +129,26 @@ pub fn pixel<W: Write>(out: &mut W, s: State, line: &[u8], colours: &[u8], overl
         s, enable, number, byte, colours, overlays,
     );
     let numbers = [enable, number, byte, refusal];
-    fields(out, b"pixel enable=% number=% byte=% refused=%, shows", &numbers)?;
-    bytes(out, hd153108_pixel::pixel(s, enable, number, byte, colours, overlays))?;
+    fields(
+        out,
+        b"pixel enable=% number=% byte=% refused=%, shows",
+        &numbers,
+    )?;
+    bytes(
+        out,
+        hd153108_pixel::pixel(s, enable, number, byte, colours, overlays),
+    )?;
     Ok(s)
 }
 
 // A look: its refusal and the number at the place.
-pub fn look<W: Write>(out: &mut W, s: State, line: &[u8], colours: &[u8], overlays: &[u8]) -> io::Result<State> {
+pub fn look<W: Write>(
+    out: &mut W,
+    s: State,
+    line: &[u8],
+    colours: &[u8],
+    overlays: &[u8],
+) -> io::Result<State> {
     let place = script::word(line, 2);
     let seen = hd153108_look::zk_a_look(s, place as u32, colours, overlays);
     script::hex(out, b"look place=", place as u64, 4)?;

@@ -82,7 +82,13 @@ fn asked(s: State, line: &[u8], queue: &[u64], map: &[u8]) -> Answer {
 }
 
 // A line that leaves what is lent.
-fn kept<W: Write>(out: &mut W, s: State, line: &[u8], queue: &[u64], map: &[u8]) -> io::Result<State> {
+fn kept<W: Write>(
+    out: &mut W,
+    s: State,
+    line: &[u8],
+    queue: &[u64],
+    map: &[u8],
+) -> io::Result<State> {
     match script::command(line) {
         b's' => Ok(given(line)),
         b'r' | b'y' => show::answer(out, line, asked(s, line, queue, map)),
@@ -117,7 +123,13 @@ fn made(s: State, line: &[u8], queue: &mut [u64], map: &mut [u8]) -> Answer {
     }
 }
 
-pub fn call<W: Write>(out: &mut W, s: State, line: &[u8], queue: &mut [u64], map: &mut [u8]) -> io::Result<State> {
+pub fn call<W: Write>(
+    out: &mut W,
+    s: State,
+    line: &[u8],
+    queue: &mut [u64],
+    map: &mut [u8],
+) -> io::Result<State> {
     match script::command(line) {
         b'c' | b'g' => Ok(colours(s, line, queue, map)),
         b'b' | b'i' | b'v' | b'w' | b'z' => show::answer(out, line, made(s, line, queue, map)),

@@ -78,7 +78,13 @@ fn call<W: Write>(
     Ok(s)
 }
 
-fn turn<W: Write>(out: &mut W, b: Bench, line: &[u8], queue: &mut [u64; 64], map: &mut [u8; 24577]) -> io::Result<Bench> {
+fn turn<W: Write>(
+    out: &mut W,
+    b: Bench,
+    line: &[u8],
+    queue: &mut [u64; 64],
+    map: &mut [u8; 24577],
+) -> io::Result<Bench> {
     match script::command(line) {
         b'n' => Ok(lent(b.state, line)),
         b'q' => {
@@ -94,7 +100,13 @@ fn turn<W: Write>(out: &mut W, b: Bench, line: &[u8], queue: &mut [u64; 64], map
     }
 }
 
-fn run<W: Write>(out: &mut W, text: &[u8], mut b: Bench, queue: &mut [u64; 64], map: &mut [u8; 24577]) -> io::Result<()> {
+fn run<W: Write>(
+    out: &mut W,
+    text: &[u8],
+    mut b: Bench,
+    queue: &mut [u64; 64],
+    map: &mut [u8; 24577],
+) -> io::Result<()> {
     let mut at = 0;
     while at < text.len() {
         let to = script::end(text, at);

@@ -21,7 +21,13 @@ fn values<W: Write>(out: &mut W, refusal: u8, value: u8, count: u16) -> io::Resu
     script::number(out, b" count ", count as u64)
 }
 
-fn places<W: Write>(out: &mut W, address: u16, counter: u8, first: u8, waiting: u8) -> io::Result<()> {
+fn places<W: Write>(
+    out: &mut W,
+    address: u16,
+    counter: u8,
+    first: u8,
+    waiting: u8,
+) -> io::Result<()> {
     script::number(out, b", address ", address as u64)?;
     let numbers = [counter, first, waiting];
     script::fields(out, b" counter # first # waiting #\n", &numbers)

@@ -80,7 +80,13 @@ fn access(s: State, line: &[u8], table: &mut [u16]) -> Answer {
 }
 
 // An access of what is lent: so many numbers of the table.
-fn lent<W: Write>(out: &mut W, s: State, size: usize, line: &[u8], table: &mut [u16]) -> io::Result<State> {
+fn lent<W: Write>(
+    out: &mut W,
+    s: State,
+    size: usize,
+    line: &[u8],
+    table: &mut [u16],
+) -> io::Result<State> {
     if size <= table.len() {
         return answer(out, access(s, line, &mut table[..size]));
     }
@@ -95,7 +101,13 @@ fn lent_size(size: usize, line: &[u8]) -> usize {
     size
 }
 
-fn turn<W: Write>(out: &mut W, s: State, size: usize, line: &[u8], table: &mut [u16; 3072]) -> io::Result<State> {
+fn turn<W: Write>(
+    out: &mut W,
+    s: State,
+    size: usize,
+    line: &[u8],
+    table: &mut [u16; 3072],
+) -> io::Result<State> {
     match script::command(line) {
         b't' => fill(table),
         b'e' => print::entry(out, line, table)?,
@@ -110,7 +122,12 @@ fn turn<W: Write>(out: &mut W, s: State, size: usize, line: &[u8], table: &mut [
     Ok(s)
 }
 
-fn run<W: Write>(out: &mut W, text: &[u8], mut s: State, table: &mut [u16; 3072]) -> io::Result<()> {
+fn run<W: Write>(
+    out: &mut W,
+    text: &[u8],
+    mut s: State,
+    table: &mut [u16; 3072],
+) -> io::Result<()> {
     let mut size: usize = 3072;
     let mut at = 0;
     while at < text.len() {
