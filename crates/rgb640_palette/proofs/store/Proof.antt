@@ -8,11 +8,11 @@ use borrow.Author.Rules.{rules}
 use Rattle.rgb640_palette.proofs.store.Statement.{statement}
 use Rattle.rgb640_palette.proofs.store.Tie as tie
 
-slice-write-table-2 : tie.Need-slice-write-table-2
-slice-write-table-2 c = simp length-set (omega arith)
+bounds-table-at-2 : tie.Need-bounds-table-at-2
+bounds-table-at-2 c = simp length-set (omega arith)
 
-slice-write-table-3 : tie.Need-slice-write-table-3
-slice-write-table-3 c = simp length-set (omega arith)
+bounds-table-at-3 : tie.Need-bounds-table-at-3
+bounds-table-at-3 c = simp length-set (omega arith)
 
 returns : tie.Need-returns
 unfolding put
@@ -22,5 +22,5 @@ pub store_spec : {M : Type 1} → statement M
 store_spec =
     tie.close
     (tie.spec (λ c. search rules) (λ c. search rules) (λ c. search rules) (λ c. search rules) (λ c. search rules)
-    (λ c. search rules) slice-write-table-2 (λ c. search rules) (λ c. search rules) slice-write-table-3
+    (λ c. search rules) bounds-table-at-2 (λ c. search rules) (λ c. search rules) bounds-table-at-3
     (λ c. search rules) returns)
