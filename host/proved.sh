@@ -107,8 +107,8 @@ once() {
     )
 }
 
-# rt_in CRATE NAME ALL COMMAND..: runs it in the crate's folder; what it prints goes to NAME's log. Each crate is shown as
-# it is proved, by its number among ALL, a list of crates; if the command fails, the log's end is shown
+# rt_in CRATE NAME ALL COMMAND..: runs it in the crate's folder; what it prints goes to NAME's log. Each crate is shown
+# as it is proved, by its number among ALL, a list of crates; if the command fails, the log's end is shown
 rt_in() {
     local crate=$1 name=$2 all=$3 log=$PWD/target/built/$2.log
     shift 3
@@ -119,7 +119,7 @@ rt_in() {
     return 1
 }
 
-# shown ALL: reads what rt prints, in which a line 'crate NAME: ..' and then one 'logic=proved ..' tell of a proved crate
+# shown ALL: reads what rt prints, where a line 'crate NAME: ..' and then one 'logic=proved ..' tell of a proved crate
 shown() {
     local line crate='' began=$SECONDS number
     while IFS= read -r line; do # not awk: some hold a pipe's lines back
