@@ -1,3 +1,4 @@
+use native.Mathlib.Omega.{arith}
 use Rattle.hd153108.specs.Hd153108.{stepped, latched, stored}
 use Rattle.hd153108.proofs.Access.{is_red, is_green, is_blue}
 use borrow.Author.Rules.{rules}
@@ -9,7 +10,6 @@ unfolding stepped latched stored
 data_write_spec =
     tie.close
     (tie.spec (λ c κs. search rules) (λ c κs. search rules) (λ c κs. search rules) (λ c κs. search rules)
-    (λ c. rw (is_red _ c.before.in-0.keys1) (search rules))
-    (λ c. rw (is_green _ c.before.in-0.keys2) (search rules)) (λ c. search rules)
-    (λ c.
-    let ((_, r), g) = c.before.before.before.before.before.in-0.rest in rw (is_blue _ r g) (search rules)))
+    (λ c. rw (is_red _ c.in-0.is) (search rules))
+    (λ c. rw (is_green _ c.in-1.is) (search rules)) (λ c. search rules)
+    (λ c. rw (is_blue c.args.s.pointer (λ e. omega arith) (λ e. omega arith)) (search rules)))

@@ -11,19 +11,19 @@ use Rattle.hd153108_pixel.proofs.pixel.Tie as tie
 lies : {x y : ℕ × ℕ} → x.0 ≡ y.0 → x.1 ≡ y.1 → x ≡ y
 lies p q i = (p i, q i)
 
-returns : tie.Need-returns
-returns c =
-    let k = c.before.before.before.before.picked.ensures in
-    let w = which_as k c.before.before.p.given.1 in (
-      simp three (part_as k c.before.before.p.given.1),
+returns-colour : tie.Need-returns-in-Colour
+returns-colour c =
+    let k = c.picked-p.ensures in
+    let w = which_as k c.in-Colour.is in (
+      simp three (part_as k c.in-Colour.is),
       λ h. rw (w.0, ← w.1) (lies (search rules) (search rules)),
     )
 
-returns-2 : tie.Need-returns-2
-returns-2 c =
-    let k = c.before.before.before.before.picked.ensures in
-    let w = which_as k c.before.before.p2.given.1 in (
-      simp three (part_as k c.before.before.p2.given.1),
+returns-overlay : tie.Need-returns-in-Overlay
+returns-overlay c =
+    let k = c.picked-p.ensures in
+    let w = which_as k c.in-Overlay.is in (
+      simp three (part_as k c.in-Overlay.is),
       λ h. rw (w.0, ← w.1) (lies (search rules) (search rules)),
     )
 
@@ -31,18 +31,18 @@ pub pixel_spec : {M : Type 1} → statement M
 pixel_spec =
     tie.close
     (tie.spec (λ c. search rules) (λ c. search rules)
-    (λ c. omega (arith, inside_as c.before.before.before.picked.ensures c.before.p.given.1))
-    (λ c. omega (arith, inside_as c.before.before.before.picked.ensures c.before.p.given.1))
+    (λ c. omega (arith, inside_as c.picked-p.ensures c.in-Colour.is))
+    (λ c. omega (arith, inside_as c.picked-p.ensures c.in-Colour.is))
     (λ c. search rules) (λ c. search rules)
-    (λ c. omega (arith, inside_as c.before.before.before.picked.ensures c.before.p.given.1))
+    (λ c. omega (arith, inside_as c.picked-p.ensures c.in-Colour.is))
     (λ c. search rules)
-    (λ c. omega (arith, inside_as c.before.before.before.picked.ensures c.before.p2.given.1))
-    (λ c. omega (arith, inside_as c.before.before.before.picked.ensures c.before.p2.given.1))
+    (λ c. omega (arith, inside_as c.picked-p.ensures c.in-Overlay.is))
+    (λ c. omega (arith, inside_as c.picked-p.ensures c.in-Overlay.is))
     (λ c. search rules) (λ c. search rules)
-    (λ c. omega (arith, inside_as c.before.before.before.picked.ensures c.before.p2.given.1))
+    (λ c. omega (arith, inside_as c.picked-p.ensures c.in-Overlay.is))
     (λ c. search rules) (λ c. search rules) (λ c. search rules) (λ c. search rules)
-    returns returns-2
+    returns-colour returns-overlay
     (λ c. (
-      part_as c.before.before.before.picked.ensures c.before.enum_told.given.1,
+      part_as c.picked-p.ensures c.in-Refused.is,
       λ h. absurd (omega arith),
     )))

@@ -6,6 +6,6 @@ pub zk_a_pixel_refusal_spec : {M : Type 1} → statement M
 zk_a_pixel_refusal_spec =
     tie.close
     (tie.spec (λ c. search) (λ c. search) (λ c. search) (λ c. search)
-    (λ c. refusal_as c.before.before.picked.ensures c.enum_told.given.1)
-    (λ c. refusal_as c.before.before.picked.ensures c.enum-told2.given.1)
-    (λ c. refusal_as c.before.before.before.picked.ensures c.before.p.given.1))
+    (λ c. refusal_as c.picked-p.ensures c.in-Colour.is)
+    (λ c. refusal_as c.picked-p.ensures c.in-Overlay.is)
+    (λ c. refusal_as c.picked-p.ensures c.in-Refused.is))

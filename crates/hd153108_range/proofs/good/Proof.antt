@@ -9,10 +9,10 @@ use Rattle.hd153108.specs.Hd153108.{state_ranges}
 use Rattle.hd153108_range.proofs.good.Statement.{statement}
 use Rattle.hd153108_range.proofs.good.Tie as tie
 
-returns-5 : tie.Need-returns-then-s-ge3
-returns-5 c =
-    let s = c.before.before.before.before.before.before.before.before.before.before.before.args.s in
-    let p = c.before.period_of.result in
+returns : tie.Need-returns
+returns c =
+    let s = c.args.s in
+    let p = c.period_of.result in
     agree _ _
     (λ e. holds_meets (state_ranges s) (omega (arith, ltb-true s.clock.position p e)))
     (λ e. let g = meets_holds (state_ranges s) e in lt-ltb s.clock.position p (omega arith))
@@ -22,4 +22,4 @@ good_spec =
     tie.close
     (tie.spec (λ c. sym (not_meets _ (λ g. omega arith))) (λ c. sym (not_meets _ (λ g. omega arith)))
     (λ c. sym (not_meets _ (λ g. omega arith))) (λ c. sym (not_meets _ (λ g. search c.if-s-ne0.true)))
-    (λ c κs. search) returns-5)
+    (λ c κs. search) returns)

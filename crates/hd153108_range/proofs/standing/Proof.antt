@@ -1,8 +1,7 @@
 -- Refusal 1, 9 or none, by the laws of `Access` from two conditions: either length as the code's own test, and the
--- ranges as `good` promises them, under a `!` (`not-true`, `not-false`). The call is `good2` in a path, since `good`
--- is what owning the parameters tells.
+-- ranges as `good` promises them.
+use native.Mathlib.Omega.{arith}
 use mathlib.Core.Path.{sym, ◌∙◌}
-use borrow.Author.Tests.{not-true, not-false}
 use Rattle.vocabulary.proofs.Range.{not_fails, holds_passes, meets_passes, misses_fails}
 use Rattle.hd153108.proofs.Access.{stands_short, stands_outside, stands}
 use Rattle.hd153108_range.proofs.standing.Statement.{statement}
@@ -11,10 +10,10 @@ use Rattle.hd153108_range.proofs.standing.Tie as tie
 pub standing_spec : {M : Type 1} → statement M
 standing_spec =
     tie.close
-    (tie.spec (λ c. stands_short _ (not_fails _ (λ g. search c.if-colours-ne768.true)))
-    (λ c. stands_short _ (not_fails _ (λ g. search c.if-overlays-ne12.true))) (λ c κs. search)
+    (tie.spec (λ c. stands_short _ (not_fails _ (λ g. omega arith)))
+    (λ c. stands_short _ (not_fails _ (λ g. omega arith))) (λ c κs. search)
     (λ c.
     stands_outside (holds_passes _ (search))
-    (misses_fails _ (sym c.before.good2.ensures ∙ not-true _ c.if-not-good.true)))
+    (misses_fails _ (sym c.good.ensures ∙ c.if-not-good.true)))
     (λ c.
-    stands (holds_passes _ (search)) (meets_passes _ (sym c.before.good2.ensures ∙ not-false _ c.if-not-good.false))))
+    stands (holds_passes _ (search)) (meets_passes _ (sym c.good.ensures ∙ c.if-not-good.false))))
