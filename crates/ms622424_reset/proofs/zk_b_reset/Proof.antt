@@ -9,25 +9,25 @@ use Rattle.ms622424_places.proofs.Does.{refuses, accepts, fresh_chip}
 use Rattle.ms622424_reset.proofs.zk_b_reset.Statement.{statement}
 use Rattle.ms622424_reset.proofs.zk_b_reset.Tie as tie
 
-returns : tie.Need-returns
-returns c m = refuses _ _ m _ _ c.refused.ensures (reset_short _ c.before.if1.true)
+returns : tie.Need-returns-then-queue-ne64
+returns c m = refuses _ _ m _ _ c.refused.ensures (reset_short _ c.before.if-queue-ne64.true)
 
-returns-2 : tie.Need-returns-2
+returns-2 : tie.Need-returns-then-s-ge8
 returns-2 c m =
-    refuses _ _ m _ _ c.refused2.ensures (reset_outside _ c.before.before.before.if1.false (λ g. omega arith))
+    refuses _ _ m _ _ c.refused-then-s-ge8.ensures (reset_outside _ c.before.before.before.if-queue-ne64.false (λ g. omega arith))
 
-returns-3 : tie.Need-returns-3
+returns-3 : tie.Need-returns-then-s-ge16
 returns-3 c m =
-    refuses _ _ m _ _ c.refused3.ensures
-    (reset_outside _ c.before.before.before.before.before.if1.false (λ g. omega arith))
+    refuses _ _ m _ _ c.refused-then-s-ge16.ensures
+    (reset_outside _ c.before.before.before.before.before.if-queue-ne64.false (λ g. omega arith))
 
-returns-4 : tie.Need-returns-4
+returns-4 : tie.Need-returns
 returns-4 c m =
     let past = c.before.before.before.before.before.before in
     let a = past.before.before.args in
     accepts a.s a.queue.now m _ _ _ _ c.accepted.ensures
     (ap (accepting 0 0) (fresh_chip a.s a.queue.now m _ _ (omega arith) (omega arith))
-    ∙ reset_does _ past.if1.false (omega arith, (omega arith, tt)))
+    ∙ reset_does _ past.if-queue-ne64.false (omega arith, (omega arith, tt)))
 
 pub zk_b_reset_spec : {M : Type 1} → statement M
 zk_b_reset_spec =

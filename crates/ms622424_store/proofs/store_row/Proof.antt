@@ -12,15 +12,15 @@ use borrow.Author.Rules.{rules}
 use Rattle.ms622424_store.proofs.store_row.Statement.{statement}
 use Rattle.ms622424_store.proofs.store_row.Tie as tie
 
-abbrev invariant-loop : tie.invariant-loop
+abbrev invariant-loop : tie.invariant-loop-moved
 invariant-loop from waiting slots queue map₀ moved₀ map moved =
     (moved ≤ waiting) × (moved ≤ slots) × (map ≡ all_stored (entries_in (ringed from moved queue)) map₀)
 
-abbrev decreases-loop : tie.decreases-loop
+abbrev decreases-loop : tie.decreases-loop-moved
 decreases-loop from waiting slots queue map₀ moved₀ map moved = slots - moved
 
 -- stores keep the map's length, which each of them asks, and the return
-kept : (c : tie.At-loop invariant-loop decreases-loop) → length c.loop-moved.map-1 ≡ length c.before.before.before.args.map-1.now
+kept : (c : tie.At-loop-moved invariant-loop decreases-loop) → length c.loop-moved.map ≡ length c.args.map.now
 kept c = ap length c.loop-moved.invariant.2 ∙ all_stored_length _ _
 
 store-requires : tie.Need-store-requires invariant-loop decreases-loop

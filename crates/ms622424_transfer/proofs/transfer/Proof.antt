@@ -15,7 +15,7 @@ small c =
     let many = how_many c.args.s.fifo c.args.queue.now in
     omega arith
 
-store-oldest-requires : tie.Need-store-oldest-requires
+store-oldest-requires : tie.Need-store_oldest-moved-requires
 store-oldest-requires c κs =
     let start = c.before.before.before.before.before in
     let a = start.args in
@@ -30,7 +30,7 @@ returns c =
     let start = stores.before.before.before.before.before.before in
     let a = start.args in
     transferred a.slots _ a.s a.queue.now a.map.now _ _ _ start.requires
-    stores.store-oldest.ensures.0 stores.store-oldest.ensures.1 (omega arith) (omega arith)
+    stores.store_oldest-moved.ensures.0 stores.store_oldest-moved.ensures.1 (omega arith) (omega arith)
 
 pub transfer_spec : {M : Type 1} → statement M
 transfer_spec =
