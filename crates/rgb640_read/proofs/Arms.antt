@@ -76,3 +76,6 @@ module _ (s : State) (t : List ℕ) where
   -- past what is tried first
   pub stands : {n : ℕ} → n ≡ standing_of (length t) s → n ≡ 0 → standing_of (length t) s ≡ 0
   stands f g = sym f ∙ g
+
+-- what a read of port 6 ends by
+pub ruleset data_ends = (update_read, palette_read_lem, not_read, stands_range)

@@ -50,6 +50,7 @@ fn palette_read(s: State, table: &[u16]) -> Answer
 }
 
 // A read of port 6, where the table and the state stand.
+#[tactic(auto, using(crate::proofs::Arms::data_ends))]
 fn data_read(s: State, table: &[u16]) -> Answer
     requires { standing_of (length table.now) s ≡ 0 }
     ensures { outcome result table.now ≡ called (reads 6) (chip s table.now) }

@@ -72,3 +72,9 @@ data_written_lem s t u port b a p e = rw p e
 -- ---- What the leaves ask
 pub table_whole : (s : State) (t : List ℕ) {n : ℕ} → n ≡ standing_of (length t) s → n ≡ 0 → length t ≡ 3072
 table_whole s t f g = (stands_range s t (sym f ∙ g)).table_whole
+
+pub stands : (s : State) (t : List ℕ) {n : ℕ} → n ≡ standing_of (length t) s → n ≡ 0 → standing_of (length t) s ≡ 0
+stands s t f g = sym f ∙ g
+
+-- what a write of any port ends by
+pub ruleset ends = (stopped, low_written, high_written, data_written_lem, no_port_lem, table_whole, stands)

@@ -31,6 +31,7 @@ fn data_write(s: State, byte: u8, table: &mut [u16]) -> Answer
 
 // A byte written to a port.
 #[unsafe(no_mangle)]
+#[tactic(auto, using(crate::proofs::Arms::ends))]
 pub extern "C" fn zk_c_write(s: State, port: u8, byte: u8, table: &mut [u16]) -> Answer
     ensures { outcome result table.new ≡ called (writes port byte) (chip s table.old) }
 {

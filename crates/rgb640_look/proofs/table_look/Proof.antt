@@ -7,10 +7,10 @@ use Rattle.rgb640_look.proofs.table_look.Statement.{statement}
 use Rattle.rgb640_look.proofs.table_look.Tie as tie
 
 -- a number of the table
-reads : tie.Need-shared-slice-read-seen
+reads : tie.Need-bounds-table-place
 reads c = omega (arith, c.before.before.before.before.requires.1)
 
-returns-2 : tie.Need-returns-2
+returns-2 : tie.Need-returns-then-place-lt68608
 returns-2 c = λ s g.
     let place = c.before.before.before.before.before.args.place in
     looked_as _ c.seen.ensures (look_table _ g place (place - 0x10000) (omega arith) (omega arith))
@@ -24,5 +24,5 @@ table_look_spec =
     (look_nowhere _ g _ c.before.before.before.requires.0 (λ l u. omega arith)))
     (λ c. search rules) (λ c. search rules) reads (λ c κs. search) returns-2 (λ c κs. search)
     (λ c s g.
-    looked_as _ c.refused2.ensures
+    looked_as _ c.refused-2.ensures
     (look_nowhere _ g _ c.before.before.before.before.requires.0 (λ l u. omega arith))))

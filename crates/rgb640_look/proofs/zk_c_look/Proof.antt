@@ -11,15 +11,15 @@ use Rattle.rgb640_look.proofs.zk_c_look.Tie as tie
 abbrev given : tie.Start → Chip
 given c = chip c.args.s c.args.table.now
 
-returns : tie.Need-returns
+returns : tie.Need-returns-then-refusal-ne0
 unfolding called_by
 returns c =
     let g = c.before.before.before.before in
-    look_stops _ _ (found (look_places (given g)) g.args.place) (given g) _ c.before.before.standing-of.ensures
-    c.before.if1.true c.refused.ensures
+    look_stops _ _ (found (look_places (given g)) g.args.place) (given g) _ c.before.before.standing_of-refusal.ensures
+    c.before.if-refusal-ne0.true c.refused.ensures
 
 pub zk_c_look_spec : {M : Type 1} → statement M
 zk_c_look_spec =
     tie.close
     (tie.spec (λ c κs. search) (λ c κs. search) returns
-    (λ c κs. stands_range _ _ (sym c.before.standing-of.ensures ∙ c.if1.false)) (λ c. c.look_at.ensures))
+    (λ c κs. stands_range _ _ (sym c.before.standing_of-refusal.ensures ∙ c.if-refusal-ne0.false)) (λ c. c.look_at.ensures))
