@@ -20,6 +20,7 @@ pub struct Sheet {
 }
 
 // A sheet, of any text.
+#[tactic(auto, using(crate::proofs::Kept::ends_good, crate::proofs::Kept::ends_bad))]
 pub fn read(text: &[u8]) -> Sheet
     ensures { let read = sheet_of text.now in (result.bad ≡ bad_line read) × (result.kept ≡ kept_of read) }
 {

@@ -1,4 +1,4 @@
--- A colour's three bytes as one number, and each key's value, as the code finds them. Assumes nothing.
+-- A colour's three bytes as one number, and each entry's value, as the code finds them. Assumes nothing.
 use Prim.Native.Nat.{ℕ, ◌+◌, ◌-◌, ◌*◌, ◌≤◌, ◌<◌}
 use mathlib.Core.Path.{◌≡◌, ◌∙◌}
 use mathlib.Core.Bool.{false}
@@ -28,10 +28,7 @@ module _ (t : List ℕ) (low : over_fifteen_in t ≡ false) (i : ℕ) where
     pub three_fit : (k : ℕ) → (get_or t i 0 * 16 + get_or t j 0) * 16 + get_or t k 0 < 65536
     three_fit k = omega (arith, low_at t i low, low_at t j low, low_at t k low)
 
--- a key's value, by its number
-pub first_value : (a : Chip) {k j x : ℕ} → k ≡ j → x ≡ get_or (values a) j 0 → x ≡ get_or (values a) k 0
-first_value a e f = rw e f
-
+-- an entry's value, by its key's number
 module _ (a : Chip) (w : Writable a) (k : ℕ) {r : ℕ} where
   pub overlay_value : 5 ≤ k → k < 9 → r ≡ get_or (colours_in a.overlays) (k - 5) 0 → r ≡ get_or (values a) k 0
   overlay_value g h e = e ∙ value_overlay a w.overlays w.colours k g h

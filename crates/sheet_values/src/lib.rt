@@ -24,6 +24,7 @@ fn colour(table: &[u8], entry: usize) -> u16
 }
 
 // A key's value.
+#[tactic(auto, unfolding(sheet::specs::Sheet::values))]
 pub fn value<'a>(s: State, colours: &'a [u8], overlays: &'a [u8], k: u16) -> u16
     requires { (k < keys) × Writable (chip s colours.now overlays.now) }
     ensures { result ≡ get_or (values (chip s colours.now overlays.now)) k 0 }

@@ -16,5 +16,5 @@ put_colour_spec =
     (λ c. simp length-set (omega arith)) (λ c. search rules) (λ c. search rules)
     (λ c.
     let s = c.before.before.before.before in
-    colour_stored _ _ _ _ s.requires.0 c.before.before.low.ensures c.before.low2.ensures c.low3.ensures
+    colour_stored _ _ _ _ s.requires.0 c.before.before.low-r.ensures c.before.low-g.ensures c.low-b.ensures
     s.requires.1))

@@ -10,4 +10,4 @@ count_of_spec =
     (λ c. search rules) (λ c. search rules) (λ c. search rules) (λ c. search rules) (λ c. search rules)
     (λ c.
     let s = c.before.before.before.before.before in
-    count_all s.args.kept.now s.requires c.before.before.table-count.ensures.0 c.table-count2.ensures.0))
+    count_all s.args.kept.now s.requires c.before.before.table_count.ensures.0 c.table_count-2.ensures.0))

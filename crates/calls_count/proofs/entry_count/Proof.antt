@@ -8,6 +8,6 @@ pub entry_count_spec : {M : Type 1} → statement M
 unfolding entry_count
 entry_count_spec =
     tie.close
-    (tie.spec (λ c. (rw (kept_missing _ c.if1.true), search rules))
-    (λ c. (rw (kept_has _ c.before.if1.false, c.if2.true), search rules))
-    (λ c. (rw (kept_has _ c.before.if1.false, c.if2.false), search rules)))
+    (tie.spec (λ c. (rw (kept_missing _ c.if-x-ge4096.true), search rules))
+    (λ c. (rw (kept_has _ c.before.if-x-ge4096.false, c.if-follows.true), search rules))
+    (λ c. (rw (kept_has _ c.before.if-x-ge4096.false, c.if-follows.false), search rules)))

@@ -12,12 +12,12 @@ use borrow.Author.Rules.{rules}
 use Rattle.calls_count.proofs.table_count.Statement.{statement}
 use Rattle.calls_count.proofs.table_count.Tie as tie
 
-abbrev invariant-loop : tie.invariant-loop
+abbrev invariant-loop : tie.invariant-loop-entry
 invariant-loop kept entry₀ count₀ joined₀ entry count joined =
     (entry ≤ length kept) × (count ≤ 4 * entry)
     × (count + table_count joined (map line_for (drop entry kept)) ≡ table_count false (map line_for kept))
 
-abbrev decreases-loop : tie.decreases-loop
+abbrev decreases-loop : tie.decreases-loop-entry
 decreases-loop kept entry₀ count₀ joined₀ entry count joined = length kept - entry
 
 pub table_count_spec : {M : Type 1} → statement M

@@ -10,11 +10,11 @@ use borrow.Author.Rules.{rules}
 use Rattle.sheet_fits.proofs.begins.Statement.{statement}
 use Rattle.sheet_fits.proofs.begins.Tie as tie
 
-abbrev invariant-loop : tie.invariant-loop
+abbrev invariant-loop : tie.invariant-loop-i
 invariant-loop text word i₀ i =
     (i ≤ length word) × (length word ≤ length text) × (starts (drop i word) (drop i text) ≡ starts word text)
 
-abbrev decreases-loop : tie.decreases-loop
+abbrev decreases-loop : tie.decreases-loop-i
 decreases-loop text word i₀ i = length word - i
 
 ruleset ends = (starts_short, starts_all, starts_on, starts_differ, rules)

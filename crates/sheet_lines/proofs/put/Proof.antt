@@ -9,10 +9,10 @@ use borrow.Author.Rules.{rules}
 use Rattle.sheet_lines.proofs.put.Statement.{statement}
 use Rattle.sheet_lines.proofs.put.Tie as tie
 
-abbrev invariant-loop : tie.invariant-loop
+abbrev invariant-loop : tie.invariant-loop-i
 invariant-loop out₀ at word i₀ out i = (i ≤ length word) × (length out ≡ length out₀) × (out ≡ paste out₀ at word i)
 
-abbrev decreases-loop : tie.decreases-loop
+abbrev decreases-loop : tie.decreases-loop-i
 decreases-loop out₀ at word i₀ out i = length word - i
 
 pub put_spec : {M : Type 1} → statement M

@@ -9,11 +9,11 @@ use borrow.Author.Rules.{rules}
 use Rattle.sheet_lines.proofs.write_lines.Statement.{statement}
 use Rattle.sheet_lines.proofs.write_lines.Tie as tie
 
-abbrev invariant-loop : tie.invariant-loop
+abbrev invariant-loop : tie.invariant-loop-k
 invariant-loop s colours overlays out₀ k₀ at₀ out k at =
     (k ≤ keys) × Going (text_of (chip s colours overlays)) out₀ out at (left (chip s colours overlays) k)
 
-abbrev decreases-loop : tie.decreases-loop
+abbrev decreases-loop : tie.decreases-loop-k
 decreases-loop s colours overlays out₀ k₀ at₀ out k at = keys - k
 
 pub write_lines_spec : {M : Type 1} → statement M

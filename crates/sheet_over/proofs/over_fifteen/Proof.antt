@@ -9,10 +9,10 @@ use borrow.Author.Rules.{rules}
 use Rattle.sheet_over.proofs.over_fifteen.Statement.{statement}
 use Rattle.sheet_over.proofs.over_fifteen.Tie as tie
 
-abbrev invariant-loop : tie.invariant-loop
+abbrev invariant-loop : tie.invariant-loop-i
 invariant-loop table i₀ i = (i ≤ length table) × (over_fifteen_in (drop i table) ≡ over_fifteen_in table)
 
-abbrev decreases-loop : tie.decreases-loop
+abbrev decreases-loop : tie.decreases-loop-i
 decreases-loop table i₀ i = length table - i
 
 ruleset turns = (none_over, over_here, over_on, rules)

@@ -10,27 +10,27 @@ use Rattle.sheet_writer.proofs.write_sheet.Tie as tie
 pub write_sheet_spec : {M : Type 1} → statement M
 write_sheet_spec =
     tie.close
-    (tie.spec (λ c. search rules) (λ c. refused_standing _ _ c.before.standing.ensures c.if1.true)
+    (tie.spec (λ c. search rules) (λ c. refused_standing _ _ c.before.standing-refusal.ensures (search rules))
     (λ c. search rules) (λ c. search (refused_colours, rules)) (λ c. search rules)
     (λ c.
     let d = c.before.before.before in
-    refused_overlays _ _ d.before.before.standing.ensures d.before.if1.false d.over-fifteen.ensures
-    c.before.before.if2.false c.before.over-fifteen2.ensures c.if3.true)
+    refused_overlays _ _ d.before.before.standing-refusal.ensures (search rules) d.over_fifteen.ensures
+    c.before.before.if-over_fifteen.false c.before.over_fifteen-2.ensures c.if-over_fifteen-2.true)
     (λ c.
     let d = c.before.before.before.before in
-    refused_short _ _ d.before.before.standing.ensures d.before.if1.false d.over-fifteen.ensures
-    c.before.before.before.if2.false c.before.before.over-fifteen2.ensures c.before.if3.false
-    c.if4.true)
+    refused_short _ _ d.before.before.standing-refusal.ensures (search rules) d.over_fifteen.ensures
+    c.before.before.before.if-over_fifteen.false c.before.before.over_fifteen-2.ensures c.before.if-over_fifteen-2.false
+    (search rules))
     (λ c κs.
     let b = c.before.before.before in
     let d = b.before.before in (
-      takes_it _ d.before.before.standing.ensures d.before.if1.false d.over-fifteen.ensures
-          b.before.if2.false b.over-fifteen2.ensures c.before.before.if3.false,
+      takes_it _ d.before.before.standing-refusal.ensures (search rules) d.over_fifteen.ensures
+          b.before.if-over_fifteen.false b.over_fifteen-2.ensures c.before.before.if-over_fifteen-2.false,
       search rules,
     )) (λ c. search rules)
     (λ c.
     let b = c.before.before.before.before.before.before in
     let d = b.before.before in
-    done _ _ d.before.before.standing.ensures d.before.if1.false d.over-fifteen.ensures
-    b.before.if2.false b.over-fifteen2.ensures c.before.before.before.before.before.if3.false
-    c.before.before.before.before.if4.false (search rules)))
+    done _ _ d.before.before.standing-refusal.ensures (search rules) d.over_fifteen.ensures
+    b.before.if-over_fifteen.false b.over_fifteen-2.ensures c.before.before.before.before.before.if-over_fifteen-2.false
+    (search rules) (search rules)))

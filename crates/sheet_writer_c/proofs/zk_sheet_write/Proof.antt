@@ -6,4 +6,4 @@ pub zk_sheet_write_spec : {M : Type 1} → statement M
 zk_sheet_write_spec =
     tie.close
     (tie.spec (λ c. search) (λ c. search) (λ c. search)
-    (λ c. rw (sym c.before.before.before.write-sheet.ensures) (c.told.ensures _)))
+    (λ c. rw (sym c.before.before.before.write_sheet.ensures) (c.told.ensures _)))
