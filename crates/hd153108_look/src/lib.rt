@@ -15,8 +15,8 @@ use vocabulary::Looked;
 
 // Past the state's places: the overlays' bytes from 0x100 on, the colours' from 0x1000 on.
 fn table_look(place: u32, colours: &[u8], overlays: &[u8]) -> Looked
-    requires le_place { 9 ≤ place }
-    requires colours_len { (length colours.now ≡ 768) × (length overlays.now ≡ 12) }
+    requires past_state { 9 ≤ place }
+    requires whole_tables { (length colours.now ≡ 768) × (length overlays.now ≡ 12) }
     ensures { (s : State) → InRange (chip s colours.now overlays.now)
         → looking result (chip s colours.now overlays.now)
         ≡ called (looks place) (chip s colours.now overlays.now) }

@@ -1,37 +1,34 @@
+use native.Mathlib.Omega.{arith}
 use Rattle.vocabulary.proofs.Look.{looked_as}
-use Rattle.vocabulary.proofs.Range.{over, over_seven}
 use Rattle.hd153108.proofs.Look.{look_state}
 use Rattle.hd153108_look.proofs.look_at.Statement.{statement}
 use Rattle.hd153108_look.proofs.look_at.Tie as tie
 
 -- none of the state's places, and whole tables
-asks : tie.Need-table-look-requires
-asks c κs =
-    let (((((((((_, a), b), d), e), f), g), h), i), j) = c.match.rest in
-    let range = c.before.before.before.requires in
-    (over 8 _ (over_seven _ a b d e f g h i) j, (range.colours, range.overlays))
+asks : tie.Need-table_look-requires
+asks c κs = (omega arith, (c.requires.colours, c.requires.overlays))
 
 pub look_at_spec : {M : Type 1} → statement M
 look_at_spec =
     tie.close
     (tie.spec (λ c κs. search) (λ c κs. search) (λ c κs. search) (λ c κs. search)
     (λ c κs. search) (λ c κs. search) (λ c κs. search) (λ c κs. search) (λ c κs. search) asks
-    (λ c. rw c.before.match.keys1
-    (looked_as _ c.seen-byte.ensures (look_state _ c.before.before.before.before.requires).0))
-    (λ c. rw c.before.match.keys2
-    (looked_as _ c.seen-byte2.ensures (look_state _ c.before.before.before.before.requires).1))
-    (λ c. rw c.before.match.keys3
-    (looked_as _ c.seen-byte3.ensures (look_state _ c.before.before.before.before.requires).2))
-    (λ c. rw c.before.match.keys4
-    (looked_as _ c.seen-byte4.ensures (look_state _ c.before.before.before.before.requires).3))
-    (λ c. rw c.before.match.keys5
-    (looked_as _ c.seen-byte5.ensures (look_state _ c.before.before.before.before.requires).4))
-    (λ c. rw c.before.match.keys6
-    (looked_as _ c.seen-byte6.ensures (look_state _ c.before.before.before.before.requires).5))
-    (λ c. rw c.before.match.keys7
-    (looked_as _ c.seen-byte7.ensures (look_state _ c.before.before.before.before.requires).6))
-    (λ c. rw c.before.match.keys8
-    (looked_as _ c.seen-byte8.ensures (look_state _ c.before.before.before.before.requires).7))
-    (λ c. rw c.before.match.keys9
-    (looked_as _ c.seen-byte9.ensures (look_state _ c.before.before.before.before.requires).8))
-    (λ c. c.table-look.ensures _ c.before.before.before.before.requires))
+    (λ c. rw c.in-0.is
+    (looked_as _ c.seen_byte.ensures (look_state _ c.requires).0))
+    (λ c. rw c.in-1.is
+    (looked_as _ c.seen_byte-in-1.ensures (look_state _ c.requires).1))
+    (λ c. rw c.in-2.is
+    (looked_as _ c.seen_byte-in-2.ensures (look_state _ c.requires).2))
+    (λ c. rw c.in-3.is
+    (looked_as _ c.seen_byte-in-3.ensures (look_state _ c.requires).3))
+    (λ c. rw c.in-4.is
+    (looked_as _ c.seen_byte-in-4.ensures (look_state _ c.requires).4))
+    (λ c. rw c.in-5.is
+    (looked_as _ c.seen_byte-in-5.ensures (look_state _ c.requires).5))
+    (λ c. rw c.in-6.is
+    (looked_as _ c.seen_byte-in-6.ensures (look_state _ c.requires).6))
+    (λ c. rw c.in-7.is
+    (looked_as _ c.seen_byte-in-7.ensures (look_state _ c.requires).7))
+    (λ c. rw c.in-8.is
+    (looked_as _ c.seen_byte-in-8.ensures (look_state _ c.requires).8))
+    (λ c. c.table_look.ensures _ c.requires))

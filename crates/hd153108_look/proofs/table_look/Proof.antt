@@ -1,27 +1,12 @@
 use Prim.Native.Nat.{◌-◌}
 use native.Mathlib.Omega.{arith}
+use lib.ListN.{get_or}
 use borrow.Author.Rules.{rules}
+use Rattle.vocabulary.specs.Look.{seen}
 use Rattle.vocabulary.proofs.Look.{looked_as}
 use Rattle.hd153108.proofs.Look.{look_overlay, look_colour, look_nowhere}
 use Rattle.hd153108_look.proofs.table_look.Statement.{statement}
 use Rattle.hd153108_look.proofs.table_look.Tie as tie
-
--- an overlay byte, and a colour byte
-reads : tie.Need-shared-slice-read-seen-byte
-reads c = omega (arith, c.before.before.before.before.before.requires.1.1)
-
-returns-2 : tie.Need-returns-2
-returns-2 c = λ s g.
-    let place = c.before.before.before.before.before.before.args.place in
-    looked_as _ c.seen-byte.ensures (look_overlay _ g place (place - 0x100) (omega arith) (omega arith))
-
-reads-2 : tie.Need-shared-slice-read-seen-byte-2
-reads-2 c = omega (arith, c.before.before.before.before.before.before.before.requires.1.0)
-
-returns-4 : tie.Need-returns-4
-returns-4 c = λ s g.
-    let place = c.before.before.before.before.before.before.before.before.args.place in
-    looked_as _ c.seen-byte2.ensures (look_colour _ g place (place - 0x1000) (omega arith) (omega arith))
 
 pub table_look_spec : {M : Type 1} → statement M
 table_look_spec =
@@ -29,14 +14,20 @@ table_look_spec =
     (tie.spec (λ c κs. search)
     (λ c s g.
     looked_as _ c.refused.ensures
-    (look_nowhere _ g _ c.before.before.before.before.requires.0 (λ l u. omega arith) (λ l u. omega arith)))
-    (λ c. search rules) reads (λ c κs. search) returns-2 (λ c κs. search)
+    (look_nowhere _ g _ c.requires.0 (λ l u. omega arith) (λ l u. omega arith)))
+    (λ c. search rules) (λ c. omega arith) (λ c κs. search)
+    (λ c s g. let place = c.args.place in
+    looked_as _ {b = seen (get_or c.args.overlays.now (place - 0x100) 0)} (search rules)
+    (look_overlay _ g place (place - 0x100) (omega arith) (omega arith)))
+    (λ c κs. search)
     (λ c s g.
-    looked_as _ c.refused2.ensures
-    (look_nowhere _ g _ c.before.before.before.before.before.before.requires.0 (λ l u. omega arith)
-    (λ l u. omega arith)))
-    (λ c. search rules) reads-2 (λ c κs. search) returns-4 (λ c κs. search)
+    looked_as _ c.refused-then-place-lt4096.ensures
+    (look_nowhere _ g _ c.requires.0 (λ l u. omega arith) (λ l u. omega arith)))
+    (λ c. search rules) (λ c. omega arith) (λ c κs. search)
+    (λ c s g. let place = c.args.place in
+    looked_as _ {b = seen (get_or c.args.colours.now (place - 0x1000) 0)} (search rules)
+    (look_colour _ g place (place - 0x1000) (omega arith) (omega arith)))
+    (λ c κs. search)
     (λ c s g.
-    looked_as _ c.refused3.ensures
-    (look_nowhere _ g _ c.before.before.before.before.before.before.before.requires.0 (λ l u. omega arith)
-    (λ l u. omega arith))))
+    looked_as _ c.refused-2.ensures
+    (look_nowhere _ g _ c.requires.0 (λ l u. omega arith) (λ l u. omega arith))))

@@ -7,19 +7,15 @@ use Rattle.hd153108.proofs.Access.{known}
 use Rattle.hd153108_look.proofs.zk_a_look.Statement.{statement}
 use Rattle.hd153108_look.proofs.zk_a_look.Tie as tie
 
--- the chip as the call finds it
-abbrev given : tie.Start → Chip
-given c = chip c.args.s c.args.colours.now c.args.overlays.now
-
-returns : tie.Need-returns
+returns : tie.Need-returns-then-refusal-ne0
 unfolding called_by
 returns c =
-    let g = c.before.before.before.before.before in
-    look_stops _ _ (found (look_places (given g)) g.args.place) (given g) _ c.before.before.standing.ensures
-    c.before.if1.true c.refused.ensures
+    let given = chip c.args.s c.args.colours.now c.args.overlays.now in
+    look_stops _ _ (found (look_places given) c.args.place) given _ c.standing-refusal.ensures
+    c.if-refusal-ne0.true c.refused.ensures
 
 pub zk_a_look_spec : {M : Type 1} → statement M
 zk_a_look_spec =
     tie.close
     (tie.spec (λ c κs. search) (λ c κs. search) returns
-    (λ c κs. known _ (sym c.before.standing.ensures ∙ c.if1.false)) (λ c. c.look_at.ensures))
+    (λ c κs. known _ (sym c.standing-refusal.ensures ∙ c.if-refusal-ne0.false)) (λ c. c.look_at.ensures))

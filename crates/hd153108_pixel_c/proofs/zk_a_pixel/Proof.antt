@@ -1,5 +1,6 @@
--- `picked` promises what its decision means, and each arm knows which decision it was (`in-Colour.is` and so on). So the entry
--- lies in its table (`inside_as`), which `shown_at` asks, and what is shown is what the call answers (`told_as`).
+-- `picked` promises what its decision means, and each arm knows which decision it was (`in-Colour.is` and so on). So
+-- the entry lies in its table (`inside_as`), which `shown_at` asks, and what is shown is what the call answers
+-- (`told_as`).
 use Rattle.hd153108_shown.proofs.Rule.{told_as, inside_as}
 use Rattle.vocabulary.proofs.Pixel.{shown_as}
 use Rattle.hd153108_pixel_c.proofs.zk_a_pixel.Statement.{statement}
