@@ -1,7 +1,6 @@
 -- In one row, or in two: the part up to the places' end, and with the slots that are left the part from place 0 on
 -- (`row_joined`). The second part's entry i is entry back + i of all.
 use Prim.Native.Nat.{◌+◌, ◌-◌}
-use mathlib.Core.Path.{◌∙◌}
 use native.Mathlib.Omega.{arith}
 use Rattle.ms622424_store.proofs.Stores.{low_at, row_joined}
 use borrow.Author.Rules.{rules}
