@@ -16,5 +16,5 @@ pub returns-in_default : goal.returns-in_default
 unfolding stepped
 returns-in_default c =
     let p = c.args.p in
-    let next : (p.address % 8192 + 1) % 8192 ≡ (p.address + 1) % 8192 = omega arith in
-    rw (is_blue p.counter (λ e. omega arith) (λ e. omega arith)) (ap (λ (n : ℕ). port n 0 p.red p.green) next)
+    rw (is_blue p.counter (λ e. omega arith) (λ e. omega arith))
+    (ap (λ (n : ℕ). port n 0 p.red p.green) (omega arith))

@@ -6,23 +6,15 @@ use native.Mathlib.Omega.{arith}
 use Rattle.vocabulary.specs.Outcome.{accepting}
 use Rattle.ms622424.proofs.Reset.{reset_short, reset_outside, reset_does}
 use Rattle.ms622424_places.proofs.Does.{refuses, accepts, fresh_chip}
+use borrow.Author.Rules.{rules}
 use Rattle.ms622424_reset.proofs.zk_b_reset.Statement.{statement}
 use Rattle.ms622424_reset.proofs.zk_b_reset.Tie as tie
 
-returns : tie.Need-returns-then-queue-ne64
-returns c m = refuses _ _ m _ _ c.refused.ensures (reset_short _ c.before.if-queue-ne64.true)
+short : tie.Need-returns-then-queue-ne64
+short c m = refuses _ _ m _ _ c.refused.ensures (reset_short _ c.before.if-queue-ne64.true)
 
-returns-2 : tie.Need-returns-then-s-ge8
-returns-2 c m =
-    refuses _ _ m _ _ c.refused-then-s-ge8.ensures (reset_outside _ c.before.before.before.if-queue-ne64.false (λ g. omega arith))
-
-returns-3 : tie.Need-returns-then-s-ge16
-returns-3 c m =
-    refuses _ _ m _ _ c.refused-then-s-ge16.ensures
-    (reset_outside _ c.before.before.before.before.before.if-queue-ne64.false (λ g. omega arith))
-
-returns-4 : tie.Need-returns
-returns-4 c m =
+accepted : tie.Need-returns
+accepted c m =
     let past = c.before.before.before.before.before.before in
     let a = past.before.before.args in
     accepts a.s a.queue.now m _ _ _ _ c.accepted.ensures
@@ -32,5 +24,8 @@ returns-4 c m =
 pub zk_b_reset_spec : {M : Type 1} → statement M
 zk_b_reset_spec =
     tie.close
-    (tie.spec (λ c κs. search) returns (λ c κs. search) returns-2 (λ c κs. search) returns-3 (λ c κs. search)
-    returns-4)
+    (tie.spec (λ c κs. search) short (λ c κs. search)
+    (λ c m. refuses _ _ m _ _ (search rules) (reset_outside _ c.if-queue-ne64.false (λ g. omega arith)))
+    (λ c κs. search)
+    (λ c m. refuses _ _ m _ _ (search rules) (reset_outside _ c.if-queue-ne64.false (λ g. omega arith)))
+    (λ c κs. search) accepted)
