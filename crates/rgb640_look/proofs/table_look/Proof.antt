@@ -10,11 +10,6 @@ use Rattle.rgb640_look.proofs.table_look.Tie as tie
 reads : tie.Need-bounds-table-place
 reads c = omega (arith, c.before.before.before.before.requires.1)
 
-returns-2 : tie.Need-returns-then-place-lt68608
-returns-2 c = λ s g.
-    let place = c.before.before.before.before.before.args.place in
-    looked_as _ c.seen.ensures (look_table _ g place (place - 0x10000) (omega arith) (omega arith))
-
 pub table_look_spec : {M : Type 1} → statement M
 table_look_spec =
     tie.close
@@ -22,7 +17,11 @@ table_look_spec =
     (λ c s g.
     looked_as _ c.refused.ensures
     (look_nowhere _ g _ c.before.before.before.requires.0 (λ l u. omega arith)))
-    (λ c. search rules) (λ c. search rules) reads (λ c κs. search) returns-2 (λ c κs. search)
+    (λ c. search rules) (λ c. search rules) reads (λ c κs. search)
+    (λ c s g.
+    let place = c.args.place in
+    looked_as _ c.seen.ensures (look_table _ g place (place - 0x10000) (omega arith) (omega arith)))
+    (λ c κs. search)
     (λ c s g.
     looked_as _ c.refused-2.ensures
     (look_nowhere _ g _ c.before.before.before.before.requires.0 (λ l u. omega arith))))
