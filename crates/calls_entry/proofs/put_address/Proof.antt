@@ -7,6 +7,6 @@ pub put_address_spec : {M : Type 1} → statement M
 unfolding call_bytes
 put_address_spec =
     tie.close
-    (tie.spec (λ c. rw c.if1.true (nothing _ _))
-    (λ c κs. rw c.before.if1.false at c.before.before.before.requires) (λ c. search)
-    (λ c. rw c.before.before.before.before.if1.false c.before.before.put-call.ensures))
+    (tie.spec (λ c. rw c.if-follows.true (nothing _ _))
+    (λ c κs. rw c.before.if-follows.false at c.before.before.before.requires) (λ c. search)
+    (λ c. rw c.before.before.before.before.if-follows.false c.before.before.put_call.ensures))

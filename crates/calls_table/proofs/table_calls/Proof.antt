@@ -10,11 +10,11 @@ use borrow.Author.Rules.{rules}
 use Rattle.calls_table.proofs.table_calls.Statement.{statement}
 use Rattle.calls_table.proofs.table_calls.Tie as tie
 
-abbrev invariant-loop : tie.invariant-loop
+abbrev invariant-loop : tie.invariant-loop-entry
 invariant-loop kept select out₀ entry₀ at₀ follows₀ out entry at follows =
     (entry ≤ length kept) × Going (left select kept 0 false) out₀ out at (left select kept entry follows)
 
-abbrev decreases-loop : tie.decreases-loop
+abbrev decreases-loop : tie.decreases-loop-entry
 decreases-loop kept select out₀ entry₀ at₀ follows₀ out entry at follows = length kept - entry
 
 pub table_calls_spec : {M : Type 1} → statement M
@@ -24,6 +24,6 @@ table_calls_spec =
     (λ c. search rules) (λ c. search rules) (λ c κs. search (entry_fits, rules)) (λ c. search rules)
     (λ c. search rules)
     (λ c.
-    let l = c.before.before.before.before.before.before.loop in
-    (search rules, next_entry _ _ _ _ _ _ _ l.invariant.1 (search rules) c.before.before.put-entry.ensures))
+    let l = c.before.before.before.before.before.before.loop-entry in
+    (search rules, next_entry _ _ _ _ _ _ _ l.invariant.1 (search rules) c.before.before.put_entry-at.ensures))
     (λ c. search rules) (λ c. search (last_entry, rules)))

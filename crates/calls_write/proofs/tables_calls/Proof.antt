@@ -8,10 +8,10 @@ use Rattle.calls_write.proofs.tables_calls.Tie as tie
 ruleset parts = (overlays_fit, tables_inside, tables_room, tables_behind, rules)
 
 -- n lies in the buffer: h has it, in the terms of the need
-part-start : tie.Need-slice-bounds-table-calls-start-3
+part-start : tie.Need-slice_bounds-table_calls-start-3
 part-start c =
     let s = c.before.before.before.before.before.before.before.before in
-    let h = tables_inside s.args.kept.now _ s.requires.1 c.before.before.before.table-calls.ensures in
+    let h = tables_inside s.args.kept.now _ s.requires.1 c.before.before.before.table_calls-n.ensures in
     search rules
 
 pub tables_calls_spec : {M : Type 1} → statement M
@@ -22,5 +22,5 @@ tables_calls_spec =
     (λ c κs.
     let t = c.before.before.before.before in
     let s = t.before.before.before.before.before in
-    (search rules, tables_room s.args.kept.now _ s.requires.1 t.table-calls.ensures))
+    (search rules, tables_room s.args.kept.now _ s.requires.1 t.table_calls-n.ensures))
     (λ c. search rules) (λ c. search parts))

@@ -8,10 +8,10 @@ use Rattle.calls_write.proofs.write_calls.Tie as tie
 ruleset parts = (registers_fit, calls_inside, calls_room, calls_behind, rules)
 
 -- n lies in the buffer: h has it, in the terms of the need
-part-start : tie.Need-slice-bounds-tables-calls-start
+part-start : tie.Need-slice_bounds-tables_calls-start
 part-start c =
     let s = c.before.before.before.before.before.before in
-    let h = calls_inside s.args.kept.now _ s.requires.1 c.before.before.register-calls.ensures in
+    let h = calls_inside s.args.kept.now _ s.requires.1 c.before.before.register_calls-n.ensures in
     search rules
 
 pub write_calls_spec : {M : Type 1} → statement M

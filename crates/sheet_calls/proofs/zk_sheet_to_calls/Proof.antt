@@ -4,7 +4,7 @@ use Rattle.sheet_calls.proofs.zk_sheet_to_calls.Statement.{statement}
 use Rattle.sheet_calls.proofs.zk_sheet_to_calls.Tie as tie
 
 returns : tie.Need-returns
-returns c = c.told.ensures _ ∙ ap telling c.before.before.before.sheet-calls.ensures
+returns c = c.told.ensures _ ∙ ap telling c.before.before.before.sheet_calls.ensures
 
 pub zk_sheet_to_calls_spec : {M : Type 1} → statement M
 zk_sheet_to_calls_spec =
