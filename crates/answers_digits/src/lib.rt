@@ -44,6 +44,7 @@ pub fn hex(t: Text, width: usize, v: u16) -> Text
 }
 
 // A decimal number of at most so many digits behind a text.
+#[tactic(auto, using(answers::proofs::Adds::decimal_last))]
 pub fn decimal(t: Text, most: usize, n: u16) -> Text
     ensures { Adds t (decimalText most n) result }
 {

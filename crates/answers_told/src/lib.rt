@@ -2,7 +2,7 @@
 //
 // The replay's answer lines decide; `told` of answers' specs/Answers.antt says which, and the two calls equal it for
 // any number that the types hold. Not modelled: a sheet's 265 lines.
-#![tactic(auto)]
+#![tactic(auto, using(answers::proofs::Adds::says_refused, answers::proofs::Adds::says_done))]
 
 ghost use Rattle.answers.specs.Answers.{Says, ok_text, news_text, told as toldText};
 

@@ -2,7 +2,7 @@
 //
 // The replay's line forms decide; they are `board_forms` and `look_forms` of log's specs/Log.antt. Not modelled: as in
 // log.
-#![tactic(auto)]
+#![tactic(auto, using(port_log::proofs::Patterns::forms))]
 
 ghost use Rattle.std.specs.Prelude.{◌≡◌, ◌++◌};
 ghost use Rattle.port_log.specs.Log.{said, board_forms, choices, look_forms};

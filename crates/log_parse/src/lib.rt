@@ -2,7 +2,7 @@
 //
 // The replay's line forms decide; specs/Log.antt of crate log says each as a pattern, and `parse` equals it for any
 // bytes. A line is given without its LF. Not modelled: as in log.
-#![tactic(auto)]
+#![tactic(auto, using(port_log::proofs::Patterns::forms))]
 
 ghost use Rattle.std.specs.Prelude.{◌≡◌};
 ghost use Rattle.port_log.specs.Log.{line_of};

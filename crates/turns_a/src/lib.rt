@@ -2,7 +2,7 @@
 //
 // The replay's description decides; specs/Turns.antt says which call of the chip is made and how its outcome is told.
 // The tables are lent, the state goes in and comes back by value. Not modelled: as in turns.
-#![tactic(auto)]
+#![tactic(auto, using(crate::proofs::Arms::arms))]
 
 ghost use Rattle.std.specs.Prelude.{ℕ, List};
 ghost use Rattle.hd153108.specs.Hd153108.{chip, ticks, looks, called};

@@ -3,7 +3,7 @@
 // The replay's description decides; specs/Turns.antt says which call of the chip is made and how its outcome is told,
 // of the chip that the state and the lent tables are (`view`). The queue and the map are lent, the state goes in and
 // comes back by value. Not modelled: as in turns.
-#![tactic(auto)]
+#![tactic(auto, using(crate::proofs::Arms::arms))]
 
 ghost use Rattle.std.specs.Prelude.{ℕ, List};
 ghost use Rattle.ms622424.specs.Ms622424.{signals as signalsCall, looks, called};
