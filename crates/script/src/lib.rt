@@ -6,9 +6,32 @@
 // digits are 0: a list is compared by what the program prints. Not modelled: what is printed, which no contract says.
 #![tactic(auto)]
 
-ghost use Rattle.std.specs.Prelude.{◌≤◌, ◌<◌, length};
+ghost use Rattle.std.specs.Prelude.{◌≤◌, ◌<◌, [], ◌∷◌, ◌++◌, length, take, drop, IfOk, OnOk};
+ghost use Rattle.std.specs.Io.{ReadsAtMost};
+ghost use Rattle.std.specs.Io.KnownBytes.{Appends, Consumes, IsAtEnd};
+ghost use Rattle.std.specs.Fmt.{decimal};
+ghost use Rattle.script.specs.Text.{padded};
 
-use libc::STDOUT_FILENO;
+use std::io;
+use std::io::{Read, Write};
+
+// Reads up to the text's end or the input's: how many bytes stand at the text's start then.
+pub fn read_full<R: Read>(from: &mut R, text: &mut [u8]) -> io::Result<usize>
+    ensures inside { ReadsAtMost result text.new }
+    ensures bytes { IfOk result
+        (λ n. Consumes (R.remaining from.old) (R.remaining from.new) (take n text.new)) }
+    ensures end { IfOk result (λ n. n < length text.new → IsAtEnd (R.remaining from.new)) }
+{
+    let mut done = 0;
+    while done < text.len() {
+        let n = from.read(&mut text[done..])?;
+        if n == 0 {
+            return Ok(done);
+        }
+        done += n;
+    }
+    Ok(done)
+}
 
 // The byte at a place, or 0 where there is none.
 fn at_place(line: &[u8], at: usize) -> u8 {
@@ -67,64 +90,75 @@ pub fn long(line: &[u8], at: usize) -> u32 {
 }
 
 // Prints a name and a decimal number behind it.
-pub fn number(name: &[u8], n: u64) {
-    io::write_all(STDOUT_FILENO, name);
-    io::print_decimal(STDOUT_FILENO, n);
+pub fn number<W: Write>(out: &mut W, name: &[u8], n: u64) -> io::Result<()>
+    ensures { OnOk result (Appends (W.contents out.old) (W.contents out.new) (name.now ++ decimal n)) }
+{
+    out.write_all(name)?;
+    write!(out, "{n}")
 }
 
 // A name and so many hex digits.
-pub fn hex(name: &[u8], n: u64, width: usize) {
-    io::write_all(STDOUT_FILENO, name);
-    io::print_hex(STDOUT_FILENO, n, width);
+pub fn hex<W: Write>(out: &mut W, name: &[u8], n: u64, width: usize) -> io::Result<()>
+    ensures { OnOk result (Appends (W.contents out.old) (W.contents out.new) (name.now ++ padded width n)) }
+{
+    out.write_all(name)?;
+    write!(out, "{n:0width$x}")
 }
 
 // Prints a byte of a text, or the number in its place: how many numbers that is. '%' stands for two hex digits, and
 // '#' for a decimal number.
-fn field(c: u8, number: u8) -> usize
-    ensures { result ≤ 1 }
+fn field<W: Write>(out: &mut W, c: u8, number: u8) -> io::Result<usize>
+    ensures { IfOk result (λ n. n ≤ 1) }
 {
-    let n = number as u64;
     match c {
         b'%' => {
-            io::print_hex(STDOUT_FILENO, n, 2);
-            1
+            write!(out, "{number:02x}")?;
+            Ok(1)
         }
         b'#' => {
-            io::print_decimal(STDOUT_FILENO, n);
-            1
+            write!(out, "{number}")?;
+            Ok(1)
         }
         _ => {
-            let d = [c];
-            io::write_all(STDOUT_FILENO, &d);
-            0
+            out.write_all(&[c])?;
+            Ok(0)
         }
     }
 }
 
 // Prints a text with one of the numbers in each place for one.
-pub fn fields(names: &[u8], numbers: &[u8]) {
+pub fn fields<W: Write>(out: &mut W, names: &[u8], numbers: &[u8]) -> io::Result<()> {
     let mut k = 0;
     for i in 0..names.len() {
-        k += field(names[i], at_place(numbers, k));
+        k += field(out, names[i], at_place(numbers, k))?;
     }
+    Ok(())
 }
 
 // The end of a line.
-pub fn line_end() {
-    io::write_all(STDOUT_FILENO, b"\n");
+pub fn line_end<W: Write>(out: &mut W) -> io::Result<()>
+    ensures { OnOk result (Appends (W.contents out.old) (W.contents out.new) (10 ∷ [])) }
+{
+    out.write_all(b"\n")
 }
 
 // A label, which stands in a line from a place on.
-pub fn label(line: &[u8], at: usize) {
-    rest(line, at);
-    line_end();
+pub fn label<W: Write>(out: &mut W, line: &[u8], at: usize) -> io::Result<()>
+    ensures { OnOk result
+        (Appends (W.contents out.old) (W.contents out.new) (drop at line.now ++ 10 ∷ [])) }
+{
+    rest(out, line, at)?;
+    line_end(out)
 }
 
 // Prints a line, or another text, from a place on.
-pub fn rest(line: &[u8], at: usize) {
+pub fn rest<W: Write>(out: &mut W, line: &[u8], at: usize) -> io::Result<()>
+    ensures { OnOk result (Appends (W.contents out.old) (W.contents out.new) (drop at line.now)) }
+{
     if at <= line.len() {
-        io::write_all(STDOUT_FILENO, &line[at..]);
+        out.write_all(&line[at..])?;
     }
+    Ok(())
 }
 
 // Where the line that starts at a place ends: at its LF, or where the text does.
