@@ -14,8 +14,8 @@ use Rattle.vocabulary.specs.Outcome.{Outcome, accepting}
 use Rattle.vocabulary.proofs.Range.{clash, not_fails, holds_parts, fails_right}
 use Rattle.vocabulary.proofs.Call.{tried_first, stops, goes_on}
 use Rattle.hd153108.specs.declared.State.{State}
-use Rattle.hd153108.specs.Hd153108.{Chip, chip, Table, colour, overlay, table_of, is_off, masked, selected, shown_table}
-use Rattle.hd153108.specs.Hd153108.{shown_entry, colour_at, shown, ranges, short, outside, InRange, pixel_ranges}
+use Rattle.hd153108.specs.Hd153108.{Chip, chip, Table, colour, overlay, table_of, is_off, masked, selected}
+use Rattle.hd153108.specs.Hd153108.{shown_table, shown_entry, colour_at, shown, ranges, short, outside, InRange, pixel_ranges}
 use Rattle.hd153108.specs.Hd153108.{pixel_refusals, pixel_part, told, pixels, called}
 use Rattle.hd153108.proofs.InRange.{not_short, pixel_clear}
 use Rattle.hd153108.proofs.Access.{tried, known}

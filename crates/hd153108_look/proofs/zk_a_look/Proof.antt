@@ -2,7 +2,7 @@ use mathlib.Core.Path.{sym, ◌∙◌}
 use Rattle.vocabulary.specs.Face.{called_by}
 use Rattle.vocabulary.specs.Look.{found}
 use Rattle.vocabulary.proofs.Look.{look_stops}
-use Rattle.hd153108.specs.Hd153108.{Chip, chip, look_places}
+use Rattle.hd153108.specs.Hd153108.{chip, look_places}
 use Rattle.hd153108.proofs.Access.{known}
 use Rattle.hd153108_look.proofs.zk_a_look.Statement.{statement}
 use Rattle.hd153108_look.proofs.zk_a_look.Tie as tie
