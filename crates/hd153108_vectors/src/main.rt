@@ -16,8 +16,9 @@
 mod show;
 
 use hd153108::{Clock, State};
-use libc::STDIN_FILENO;
 use script::byte;
+use std::io;
+use std::io::Write;
 
 fn given(line: &[u8]) -> State {
     let k = Clock {
@@ -44,71 +45,96 @@ fn number_entries(t: &mut [u8], first: u8) {
 }
 
 // A line of the blink clock; any other is the label of what follows.
-fn blink(k: Clock, line: &[u8]) -> Clock {
+fn blink<W: Write>(out: &mut W, k: Clock, line: &[u8]) -> io::Result<Clock> {
     match script::command(line) {
-        b't' => show::tick(k),
-        b'a' => show::advance(k),
-        b'k' => show::clock(k),
+        b't' => show::tick(out, k),
+        b'a' => show::advance(out, k),
+        b'k' => show::clock(out, k),
         _ => {
-            script::label(line, 0);
-            k
+            script::label(out, line, 0)?;
+            Ok(k)
         }
     }
 }
 
 // A line that no table is lent for.
-fn alone(s: State, line: &[u8]) -> State {
+fn alone<W: Write>(out: &mut W, s: State, line: &[u8]) -> io::Result<State> {
     match script::command(line) {
-        b's' => given(line),
-        b'z' => show::reset(s),
-        b'g' => show::registers(s),
+        b's' => Ok(given(line)),
+        b'z' => show::reset(out, s),
+        b'g' => show::registers(out, s),
         _ => {
             let mut n = s;
-            let k = blink(s.clock, line);
+            let k = blink(out, s.clock, line)?;
             n.clock = k;
-            n
+            Ok(n)
         }
     }
 }
 
 // A line that leaves the tables.
-fn asked<'a>(s: State, line: &[u8], colours: &'a [u8], overlays: &'a [u8]) -> State {
+fn asked<W: Write>(
+    out: &mut W,
+    s: State,
+    line: &[u8],
+    colours: &[u8],
+    overlays: &[u8],
+) -> io::Result<State> {
     match script::command(line) {
-        b'r' => show::read(s, line, colours, overlays),
-        b'p' => show::pixel(s, line, colours, overlays),
-        b'c' => show::entry(s, line, colours),
-        b'o' => show::entry(s, line, overlays),
-        b'?' => show::look(s, line, colours, overlays),
-        _ => alone(s, line),
+        b'r' => show::read(out, s, line, colours, overlays),
+        b'p' => show::pixel(out, s, line, colours, overlays),
+        b'c' => show::entry(out, s, line, colours),
+        b'o' => show::entry(out, s, line, overlays),
+        b'?' => show::look(out, s, line, colours, overlays),
+        _ => alone(out, s, line),
     }
 }
 
-fn turn(s: State, line: &[u8], colours: &mut [u8; 768], overlays: &mut [u8; 12]) -> State {
+fn turn<W: Write>(
+    out: &mut W,
+    s: State,
+    line: &[u8],
+    colours: &mut [u8; 768],
+    overlays: &mut [u8; 12],
+) -> io::Result<State> {
     match script::command(line) {
-        b'w' => show::write(s, line, colours, overlays),
-        b'x' => show::write(s, line, overlays, colours),
+        b'w' => show::write(out, s, line, colours, overlays),
+        b'x' => show::write(out, s, line, overlays, colours),
         b'n' => {
             number_entries(colours, 0);
             number_entries(overlays, 240);
-            s
+            Ok(s)
         }
-        _ => asked(s, line, colours, overlays),
+        _ => asked(out, s, line, colours, overlays),
     }
 }
 
-fn run(text: &[u8], mut s: State, colours: &mut [u8; 768], overlays: &mut [u8; 12]) {
+fn run<W: Write>(
+    out: &mut W,
+    text: &[u8],
+    mut s: State,
+    colours: &mut [u8; 768],
+    overlays: &mut [u8; 12],
+) -> io::Result<()> {
     let mut at = 0;
     while at < text.len() {
         let to = script::end(text, at);
-        s = turn(s, &text[at..to], colours, overlays);
+        s = turn(out, s, &text[at..to], colours, overlays)?;
         at = to + 1;
     }
+    Ok(())
 }
 
-fn main() {
+fn main(rt: HostRuntime) -> io::Result<()> {
     let mut text = [0u8; 4096];
-    let n = io::read_full(STDIN_FILENO, &mut text);
+    let n = script::read_full(&mut rt.stdin(), &mut text)?;
     let mut colours = [0u8; 768];
     let mut overlays = [0u8; 12];
-    run(&text[..n], given(b""), &mut colours, &mut overlays);
+    run(
+        &mut rt.stdout(),
+        &text[..n],
+        given(b""),
+        &mut colours,
+        &mut overlays,
+    )
 }

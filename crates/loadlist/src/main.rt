@@ -6,11 +6,14 @@
 // made by crate sheet_calls; its buffer holds the longest there is, 786 calls.
 #![tactic(auto)]
 
-ghost use Rattle.std.specs.Prelude.{◌≡◌, [], ◌∷◌, ◌/◌, ◌%◌};
+ghost use Rattle.std.specs.Prelude.{◌≡◌, [], ◌∷◌, ◌/◌, ◌%◌, take, IfSome, OnOk};
+ghost use Rattle.std.specs.Io.KnownBytes.{Appends};
 ghost use Rattle.hex_digits.specs.Hex.{hex_digit};
+ghost use Rattle.loadlist.specs.Listing.{call_lines, refusal_lines, Prints};
 
-use libc::{STDIN_FILENO, STDOUT_FILENO};
 use sheet::Answer;
+use std::io;
+use std::io::{Read, Write};
 
 // A call's line.
 fn call_line(select: u8, byte: u8) -> [u8; 6]
@@ -23,31 +26,42 @@ fn call_line(select: u8, byte: u8) -> [u8; 6]
     [b'w', s, b'=', h, l, b'\n']
 }
 
-fn show_calls(calls: &[u8], count: u16) {
-    let mut i: u16 = 0;
-    while i < count {
+// The calls, one a line.
+fn show_calls<W: Write>(out: &mut W, calls: &[u8], count: u16) -> io::Result<()>
+    ensures { OnOk result
+        (Appends (W.contents out.old) (W.contents out.new) (call_lines count calls.now)) }
+{
+    for i in 0..count {
         let at = 2 * (i as usize);
         let line = call_line(hex_digits::byte(calls, at), hex_digits::byte(calls, at + 1));
-        io::write_all(STDOUT_FILENO, &line);
-        i += 1;
+        out.write_all(&line)?;
     }
+    Ok(())
 }
 
-fn show_refusal(refusal: u8, line: u16) {
-    io::write_all(STDOUT_FILENO, b"refused=");
-    io::print_decimal(STDOUT_FILENO, refusal as u64);
-    io::write_all(STDOUT_FILENO, b"\nline=");
-    io::print_decimal(STDOUT_FILENO, line as u64);
-    io::write_all(STDOUT_FILENO, b"\n");
+fn show_refusal<W: Write>(out: &mut W, refusal: u8, line: u16) -> io::Result<()>
+    ensures { OnOk result
+        (Appends (W.contents out.old) (W.contents out.new) (refusal_lines refusal line)) }
+{
+    script::number(out, b"refused=", refusal as u64)?;
+    script::number(out, b"\nline=", line as u64)?;
+    script::line_end(out)
 }
 
-fn main() {
+// The input's sheet, and what is printed of it.
+fn load<R: Read, W: Write>(from: &mut R, to: &mut W) -> io::Result<()>
+    ensures { OnOk result (IfSome (R.remaining from.old)
+        (λ input. Prints (W.contents to.old) (W.contents to.new) (take 4096 input))) }
+{
     let mut text = [0u8; 4096];
-    let n = io::read_full(STDIN_FILENO, &mut text);
+    let n = script::read_full(from, &mut text)?;
     let mut calls = [0u8; 1572];
-    let answer = sheet_calls::sheet_calls(&text[..n], &mut calls);
-    match answer {
-        Answer::Done(count) => show_calls(&calls, count),
-        Answer::Refused(refusal, line) => show_refusal(refusal, line),
+    match sheet_calls::sheet_calls(&text[..n], &mut calls) {
+        Answer::Done(count) => show_calls(to, &calls, count),
+        Answer::Refused(refusal, line) => show_refusal(to, refusal, line),
     }
+}
+
+fn main(rt: HostRuntime) -> io::Result<()> {
+    load(&mut rt.stdin(), &mut rt.stdout())
 }

@@ -5,6 +5,8 @@ use super::show;
 use ms622424::{Control, Ident, Port};
 use ms622424_places::{Answer, Fifo, State};
 use script::byte;
+use std::io;
+use std::io::Write;
 
 // The state of a chip of revision 5 on board 9 after a reset.
 pub fn fresh() -> State {
@@ -80,26 +82,33 @@ fn asked(s: State, line: &[u8], queue: &[u64], map: &[u8]) -> Answer {
 }
 
 // A line that leaves what is lent.
-fn kept(s: State, line: &[u8], queue: &[u64], map: &[u8]) -> State {
+fn kept<W: Write>(
+    out: &mut W,
+    s: State,
+    line: &[u8],
+    queue: &[u64],
+    map: &[u8],
+) -> io::Result<State> {
     match script::command(line) {
-        b's' => given(line),
-        b'r' | b'y' => show::answer(line, asked(s, line, queue, map)),
+        b's' => Ok(given(line)),
+        b'r' | b'y' => show::answer(out, line, asked(s, line, queue, map)),
         b'p' => {
             let word = script::long(line, 5);
             show::colour(
+                out,
                 line,
                 ms622424_pixel::zk_b_pixel(s, byte(line, 2), word, queue, map),
-            );
-            s
+            )?;
+            Ok(s)
         }
         b'?' => {
             let place = script::long(line, 2);
-            show::looked(line, ms622424_look::zk_b_look(s, place, queue, map));
-            s
+            show::looked(out, line, ms622424_look::zk_b_look(s, place, queue, map))?;
+            Ok(s)
         }
         _ => {
-            script::label(line, 0);
-            s
+            script::label(out, line, 0)?;
+            Ok(s)
         }
     }
 }
@@ -114,10 +123,16 @@ fn made(s: State, line: &[u8], queue: &mut [u64], map: &mut [u8]) -> Answer {
     }
 }
 
-pub fn call(s: State, line: &[u8], queue: &mut [u64], map: &mut [u8]) -> State {
+pub fn call<W: Write>(
+    out: &mut W,
+    s: State,
+    line: &[u8],
+    queue: &mut [u64],
+    map: &mut [u8],
+) -> io::Result<State> {
     match script::command(line) {
-        b'c' | b'g' => colours(s, line, queue, map),
-        b'b' | b'i' | b'v' | b'w' | b'z' => show::answer(line, made(s, line, queue, map)),
-        _ => kept(s, line, queue, map),
+        b'c' | b'g' => Ok(colours(s, line, queue, map)),
+        b'b' | b'i' | b'v' | b'w' | b'z' => show::answer(out, line, made(s, line, queue, map)),
+        _ => kept(out, s, line, queue, map),
     }
 }

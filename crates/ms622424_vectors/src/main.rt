@@ -21,8 +21,9 @@ ghost use Rattle.std.specs.Prelude.{◌<◌};
 mod calls;
 mod show;
 
-use libc::STDIN_FILENO;
 use ms622424_places::State;
+use std::io;
+use std::io::Write;
 
 // The chip's state, and how many places of the queue and bytes of the map are lent.
 #[derive(Clone, Copy)]
@@ -60,50 +61,64 @@ fn waiting(line: &[u8]) -> u64 {
 }
 
 // A call on what is lent.
-fn call(
+fn call<W: Write>(
+    out: &mut W,
     s: State,
     places: usize,
     bytes: usize,
     line: &[u8],
     queue: &mut [u64],
     map: &mut [u8],
-) -> State {
+) -> io::Result<State> {
     if places <= queue.len() {
         if bytes <= map.len() {
-            return calls::call(s, line, &mut queue[..places], &mut map[..bytes]);
+            return calls::call(out, s, line, &mut queue[..places], &mut map[..bytes]);
         }
     }
-    s
+    Ok(s)
 }
 
-fn turn(b: Bench, line: &[u8], queue: &mut [u64; 64], map: &mut [u8; 24577]) -> Bench {
+fn turn<W: Write>(
+    out: &mut W,
+    b: Bench,
+    line: &[u8],
+    queue: &mut [u64; 64],
+    map: &mut [u8; 24577],
+) -> io::Result<Bench> {
     match script::command(line) {
-        b'n' => lent(b.state, line),
+        b'n' => Ok(lent(b.state, line)),
         b'q' => {
             fill(queue, script::byte(line, 2) as usize, waiting(line));
-            b
+            Ok(b)
         }
         _ => {
             let mut n = b;
-            let next = call(b.state, b.places, b.bytes, line, queue, map);
+            let next = call(out, b.state, b.places, b.bytes, line, queue, map)?;
             n.state = next;
-            n
+            Ok(n)
         }
     }
 }
 
-fn run(text: &[u8], mut b: Bench, queue: &mut [u64; 64], map: &mut [u8; 24577]) {
+fn run<W: Write>(
+    out: &mut W,
+    text: &[u8],
+    mut b: Bench,
+    queue: &mut [u64; 64],
+    map: &mut [u8; 24577],
+) -> io::Result<()> {
     let mut at = 0;
     while at < text.len() {
         let to = script::end(text, at);
-        b = turn(b, &text[at..to], queue, map);
+        b = turn(out, b, &text[at..to], queue, map)?;
         at = to + 1;
     }
+    Ok(())
 }
 
-fn main() {
+fn main(rt: HostRuntime) -> io::Result<()> {
     let mut text = [0u8; 8192];
-    let n = io::read_full(STDIN_FILENO, &mut text);
+    let n = script::read_full(&mut rt.stdin(), &mut text)?;
     let mut queue = [0u64; 64];
     let mut map = [0u8; 24577];
     let start = Bench {
@@ -111,5 +126,5 @@ fn main() {
         places: 0,
         bytes: 0,
     };
-    run(&text[..n], start, &mut queue, &mut map);
+    run(&mut rt.stdout(), &text[..n], start, &mut queue, &mut map)
 }

@@ -6,11 +6,13 @@
 // on where all of it was taken. Not modelled: what is read and printed, which no contract says.
 #![tactic(auto)]
 
-ghost use Rattle.std.specs.Prelude.{◌≡◌, ◌+◌, ◌^◌, ◌<◌, length};
+ghost use Rattle.std.specs.Prelude.{◌≡◌, ◌+◌, ◌^◌, ◌<◌, length, IfOk};
 
 use board::Board;
 use feed_take::Fed;
 use input::Input;
+use std::io;
+use std::io::{Read, Write};
 
 // The board, how many bytes of a line are held, and the input.
 #[derive(Clone, Copy)]
@@ -30,10 +32,16 @@ fn begun(board: Board) -> Stand {
 }
 
 // The answer behind what waits: its text, and behind it the page's first bytes.
-fn say(f: Fed, page: &[u8], out: &mut [u8; 65536], waiting: usize) -> usize {
+fn say<W: Write>(
+    to: &mut W,
+    f: Fed,
+    page: &[u8],
+    out: &mut [u8; 65536],
+    waiting: usize,
+) -> io::Result<usize> {
     let bytes = f.step.text.bytes;
-    let at = printer::say_text(bytes, f.step.text.len, out, waiting);
-    printer::say_first(page, f.step.listed, out, at)
+    let at = printer::say_text(to, bytes, f.step.text.len, out, waiting)?;
+    printer::say_first(to, page, f.step.listed, out, at)
 }
 
 // What was taken.
@@ -50,7 +58,8 @@ fn taken(i: Input, f: Fed, waiting: usize) -> Stand
 }
 
 // A text that was read, put to the board, and its answer behind what waits.
-fn turn(
+fn turn<W: Write>(
+    to: &mut W,
     s: Stand,
     i: Input,
     text: &[u8],
@@ -62,18 +71,21 @@ fn turn(
     table: &mut [u16; 3072],
     page: &mut [u8; 2134],
     out: &mut [u8; 65536],
-) -> Stand
+) -> io::Result<Stand>
     requires { i.at + length text.now < 2 ^ 64 }
-    ensures { result.input.turns ≡ i.turns }
+    ensures { IfOk result (λ r. r.input.turns ≡ i.turns) }
 {
     let f = feed_take::take(
         s.board, s.len, text, hold, colours, overlays, queue, map, table, page,
     );
-    taken(i, f, say(f, page, out, i.waiting))
+    let waiting = say(to, f, page, out, i.waiting)?;
+    Ok(taken(i, f, waiting))
 }
 
 // The whole log.
-fn replay(
+fn replay<R: Read, W: Write>(
+    from: &mut R,
+    to: &mut W,
     mut s: Stand,
     chunk: &mut [u8; 65536],
     hold: &mut [u8; 16],
@@ -84,10 +96,11 @@ fn replay(
     table: &mut [u16; 3072],
     page: &mut [u8; 2134],
     out: &mut [u8; 65536],
-) {
+) -> io::Result<()> {
     while s.input.turns > 0 {
-        let i = input::next(s.input, s.len, chunk, out);
+        let i = input::next(from, to, s.input, s.len, chunk, out)?;
         s = turn(
+            to,
             s,
             i,
             input::rest(chunk, i.at, i.got),
@@ -99,12 +112,12 @@ fn replay(
             table,
             page,
             out,
-        );
+        )?;
     }
-    printer::flush(out, s.input.waiting);
+    printer::flush(to, out, s.input.waiting)
 }
 
-fn main() {
+fn main(rt: HostRuntime) -> io::Result<()> {
     let mut chunk = [0u8; 65536];
     let mut hold = [0u8; 16];
     let mut colours = [0u8; 768];
@@ -116,6 +129,8 @@ fn main() {
     let mut out = [0u8; 65536];
     let board = board_start::start(&queue);
     replay(
+        &mut rt.stdin(),
+        &mut rt.stdout(),
         begun(board),
         &mut chunk,
         &mut hold,
@@ -126,5 +141,5 @@ fn main() {
         &mut table,
         &mut page,
         &mut out,
-    );
+    )
 }

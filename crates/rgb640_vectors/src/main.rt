@@ -18,9 +18,10 @@
 
 mod print;
 
-use libc::STDIN_FILENO;
 use print::answer;
 use rgb640::{Answer, Colour, State};
+use std::io;
+use std::io::Write;
 
 fn fill(t: &mut [u16; 3072]) {
     for i in 0..3072 {
@@ -45,29 +46,29 @@ fn given(line: &[u8]) -> State {
 }
 
 // A line that shows a part of the state.
-fn show(s: State, command: u8) {
+fn show<W: Write>(out: &mut W, s: State, command: u8) -> io::Result<()> {
     match command {
-        b'i' => print::place(s.index, s.place),
-        b'f' => print::three(s.fetched.red, s.fetched.green, s.fetched.blue),
-        b'l' => print::latches(s.red, s.green, s.update),
-        _ => {}
+        b'i' => print::place(out, s.index, s.place),
+        b'f' => print::three(out, s.fetched.red, s.fetched.green, s.fetched.blue),
+        b'l' => print::latches(out, s.red, s.green, s.update),
+        _ => Ok(()),
     }
 }
 
 // A line that asks nothing of the table.
-fn alone(s: State, line: &[u8]) -> State {
+fn alone<W: Write>(out: &mut W, s: State, line: &[u8]) -> io::Result<State> {
     let command = script::command(line);
     match command {
         b'n' => {}
-        b's' => return given(line),
-        b'z' => return answer(rgb640_reset::zk_c_reset(s)),
-        b'.' => script::line_end(),
+        b's' => return Ok(given(line)),
+        b'z' => return answer(out, rgb640_reset::zk_c_reset(s)),
+        b'.' => script::line_end(out)?,
         _ => {
-            script::label(line, 2);
-            show(s, command);
+            script::label(out, line, 2)?;
+            show(out, s, command)?;
         }
     }
-    s
+    Ok(s)
 }
 
 fn access(s: State, line: &[u8], table: &mut [u16]) -> Answer {
@@ -79,11 +80,17 @@ fn access(s: State, line: &[u8], table: &mut [u16]) -> Answer {
 }
 
 // An access of what is lent: so many numbers of the table.
-fn lent(s: State, size: usize, line: &[u8], table: &mut [u16]) -> State {
+fn lent<W: Write>(
+    out: &mut W,
+    s: State,
+    size: usize,
+    line: &[u8],
+    table: &mut [u16],
+) -> io::Result<State> {
     if size <= table.len() {
-        return answer(access(s, line, &mut table[..size]));
+        return answer(out, access(s, line, &mut table[..size]));
     }
-    s
+    Ok(s)
 }
 
 // How many numbers of the table are lent from a line on.
@@ -94,35 +101,48 @@ fn lent_size(size: usize, line: &[u8]) -> usize {
     size
 }
 
-fn turn(s: State, size: usize, line: &[u8], table: &mut [u16; 3072]) -> State {
+fn turn<W: Write>(
+    out: &mut W,
+    s: State,
+    size: usize,
+    line: &[u8],
+    table: &mut [u16; 3072],
+) -> io::Result<State> {
     match script::command(line) {
         b't' => fill(table),
-        b'e' => print::entry(line, table),
+        b'e' => print::entry(out, line, table)?,
         b'?' => print::look(
+            out,
             line,
             rgb640_look::zk_c_look(s, script::long(line, 2), table),
-        ),
-        b'w' | b'r' => return lent(s, size, line, table),
-        _ => return alone(s, line),
+        )?,
+        b'w' | b'r' => return lent(out, s, size, line, table),
+        _ => return alone(out, s, line),
     }
-    s
+    Ok(s)
 }
 
-fn run(text: &[u8], mut s: State, table: &mut [u16; 3072]) {
+fn run<W: Write>(
+    out: &mut W,
+    text: &[u8],
+    mut s: State,
+    table: &mut [u16; 3072],
+) -> io::Result<()> {
     let mut size: usize = 3072;
     let mut at = 0;
     while at < text.len() {
         let to = script::end(text, at);
         let line = &text[at..to];
         size = lent_size(size, line);
-        s = turn(s, size, line, table);
+        s = turn(out, s, size, line, table)?;
         at = to + 1;
     }
+    Ok(())
 }
 
-fn main() {
+fn main(rt: HostRuntime) -> io::Result<()> {
     let mut text = [0u8; 4096];
-    let n = io::read_full(STDIN_FILENO, &mut text);
+    let n = script::read_full(&mut rt.stdin(), &mut text)?;
     let mut table = [0u16; 3072];
-    run(&text[..n], given(b""), &mut table);
+    run(&mut rt.stdout(), &text[..n], given(b""), &mut table)
 }

@@ -1,5 +1,5 @@
 -- What was read so far stands at the text's start, and no more of the input is gone.
-use Rattle.std.proofs.Common.{length, ◌-◌, ◌≤◌, ◌≡◌, take}
+use Rattle.std.proofs.Common.{length, ◌-◌, ◌≤◌, take}
 use Rattle.std.specs.Io.KnownBytes.{Consumes}
 use Rattle.script.proofs.read_full.Given as goal
 
