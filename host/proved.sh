@@ -1,15 +1,15 @@
 # Sourced, from the project's root, with `who` the name that messages begin with: what is proved and built with the
 # Rattle kit, which is all that it needs. Nothing is installed.
 #
-#   kit_check         fails, saying what is missing, before anything starts
-#   program NAME      target/bin/NAME, proved and built unless that is done; kit_run is then the words before it
+#   kit_check         fails, saying what is missing, before anything starts; kit is then the kit's folder
+#   program NAME      `made NAME`, its file, proved and built unless that is done; kit_run is then the words before it
 #   library           target/host/libzikombaru.a, every exported call of the proved crates in one archive
 #   everything        both programs and the library, so that the tests behind it say nothing of building
 #
 # Of what is built a sum is kept, over the kit, every file that it is built from, and itself (target/built); it is built
 # again when that sum is another. Of two commands that start together one builds, and the other waits: crates.txt is
 # locked.
-kit_made_with='rattle-kit-5b logic 064da1ca440f63e7'
+kit_made_with='rattle-kit-13f logic dac8208d650f15bf'
 
 say() { printf '%s: %s\n' "$who" "$*" >&2; }
 
@@ -29,30 +29,35 @@ kit_check() {
         say "needs the Rattle kit, and 'rt version' says: $kit_is"
         return 1
     fi
-    kit=$(dirname "$(dirname "$(rt doc)")")/on/$(uname -m)/toolchain
-    kit_run=("$kit/lib/ld-linux-x86-64.so.2" --library-path "$kit/lib")
-    [ "$(uname -m)" = x86_64 ] || kit_run=("$kit/bin/qemu-x86_64" "${kit_run[@]}")
-    [ -x "${kit_run[0]}" ] && return
-    say "the Rattle kit is not whole: it has no ${kit_run[0]}, which runs its programs here"
+    kit=$(dirname "$(rt doc)")
+    kit_run=("$kit/toolchain/lib/ld-linux-x86-64.so.2" --library-path "$kit/toolchain/lib")
+    if [ ! -x "${kit_run[0]}" ]; then
+        say "the Rattle kit is not whole: it has no ${kit_run[0]}, which runs its programs"
+        return 1
+    fi
+    [ "$(uname -m)" = x86_64 ] && return
+    kit_run=(qemu-x86_64 "${kit_run[@]}")
+    command -v qemu-x86_64 >/dev/null && return
+    say "needs qemu-x86_64, which runs the kit's programs here: install it (Debian has it in qemu-user)"
     return 1
 }
 
-# what building needs beside the kit: a folder to write to, and room in it
+# what building needs beside the kit: folders to write to, and room in them
 room_check() {
-    if ! mkdir -p target/built 2>/dev/null || [ ! -w target/built ]; then
-        say "can't write to the folder 'target' of the project, where it builds"
+    if ! mkdir -p target/built 2>/dev/null || [ ! -w target/built ] || [ ! -w crates ]; then
+        say "can't write to the folders 'target' and 'crates' of the project, where it builds"
         return 1
     fi
     local free
-    free=$(df -Pk target | awk 'NR == 2 { print int($4 / 1024) }')
-    if [ "${free:-1000}" -lt 500 ]; then
-        say "building needs some 500 MB in the folder 'target' of the project; $free MB are free"
+    free=$(df -Pk crates | awk 'NR == 2 { print int($4 / 1024) }')
+    if [ "${free:-9000}" -lt 3000 ]; then
+        say "building needs some 3 GB in the folder 'crates' of the project; $free MB are free"
         return 1
     fi
     [ "$kit_is" = "$kit_made_with" ] || say "made with $kit_made_with; this kit is $kit_is: going on with it"
 }
 
-# reached CRATE..: the lines of crates.txt of these crates and of all that they rest on
+# reached CRATE..: the lines of crates.txt of these crates and of all that they rest on, lowest first, as rt goes
 reached() {
     awk -F: -v wanted="$*" '
         function visit(name,    names, k, n) {
@@ -60,9 +65,9 @@ reached() {
             seen[name] = 1
             n = split(rests[name], names, " ")
             for (k = 1; k <= n; k++) visit(names[k])
-            print name ":" rests[name]
+            print line[name]
         }
-        !/^#/ { rests[$1] = $2 }
+        !/^#/ { name = $1; sub(/ .*/, "", name); rests[name] = $2; line[name] = $0 }
         END { n = split(wanted, names, " "); for (k = 1; k <= n; k++) visit(names[k]) }' crates.txt
 }
 
@@ -72,7 +77,7 @@ sum_of() {
     lines=$(reached "$@")
     {
         printf '%s\n' "$kit_is" "$lines"
-        sed 's|\(.*\):.*|crates/\1/src\ncrates/\1/specs\ncrates/\1/proofs|' <<<"$lines" |
+        sed 's|[ :].*||; s|.*|crates/&/src\ncrates/&/specs\ncrates/&/proofs|' <<<"$lines" |
             xargs sh -c 'find "$@" -type f 2>/dev/null || true' sh | LC_ALL=C sort | xargs sha256sum
     } | sha256sum
 }
@@ -82,12 +87,6 @@ is_built() {
     local file=$1
     shift
     [ -f "$file" ] && [ "$(sum_of "$@" && sha256sum <"$file")" = "$(cat "target/built/${file##*/}" 2>/dev/null)" ]
-}
-
-# is_lost FILE: it is not there, or it is another than was kept
-is_lost() {
-    [ ! -f "$1" ] || { [ -f "target/built/${1##*/}" ] &&
-        [ "$(sha256sum <"$1")" != "$(tail -n 1 "target/built/${1##*/}")" ]; }
 }
 
 # kept FILE SUM: notes that FILE was made from what has this sum
@@ -108,64 +107,75 @@ once() {
     )
 }
 
-# rt_for NAME COMMAND..: runs it, what it prints to NAME's log, and on; if it fails, the log's end is shown
-rt_for() {
-    local name=$1 log=target/built/$1.log
-    shift
-    "$@" </dev/null 2>&1 | tee "$log"
+# rt_in CRATE NAME ALL COMMAND..: runs it in the crate's folder; what it prints goes to NAME's log. Each crate is shown
+# as it is proved, by its number among ALL, a list of crates; if the command fails, the log's end is shown
+rt_in() {
+    local crate=$1 name=$2 all=$3 log=$PWD/target/built/$2.log
+    shift 3
+    (cd "crates/$crate" && exec "$@" </dev/null 2>&1) | tee "$log" | shown "$all"
     [ "${PIPESTATUS[0]}" -eq 0 ] && return
     say "$name could not be built; the end of what rt said, all of which is in $log:"
-    tail -n 15 "$log" | cut -c1-200 >&2
+    grep -v -E '^(statements|library|rt: chose) ' "$log" | tail -n 15 | cut -c1-200 >&2
     return 1
 }
 
-# check_shown NAME ALL CRATE..: proves the crates and what they rest on; each is shown when it is proved, of ALL
-check_shown() {
-    local name=$1 all=$2 n=0 line
-    shift 2
-    rt_for "$name" rt check "$@" | while IFS= read -r line; do # not awk: some hold a pipe's lines back
-        [[ $line =~ ^rt:\ ([a-z0-9_]+)\ (NOT\ PROVED|proved)(\ \([0-9]+\ s\))? ]] || continue
-        n=$((n + 1))
-        [ -z "${BASH_REMATCH[3]}" ] || say "proved $n of $all: ${BASH_REMATCH[1]}${BASH_REMATCH[3]}"
+# shown ALL: reads what rt prints, where a line 'crate NAME: ..' and then one 'logic=proved ..' tell of a proved crate
+shown() {
+    local line crate='' began=$SECONDS number
+    while IFS= read -r line; do # not awk: some hold a pipe's lines back
+        case $line in
+        'crate '*:*)
+            crate=${line#crate }
+            crate=${crate%%:*}
+            ;;
+        logic=proved*)
+            number=$(grep -n -m 1 -x -e "$crate" <<<"$1") || continue
+            say "proved ${number%%:*} of $(grep -c . <<<"$1"): $crate ($((SECONDS - began)) s)"
+            began=$SECONDS
+            ;;
+        esac
     done
-    return "${PIPESTATUS[0]}"
+    return 0
 }
 
-# takes NAME ALL SECONDS: says what begins, and how long it takes where nothing of it is done yet
+# names CRATE..: the crates, and those that they rest on, a line each
+names() { reached "$@" | sed 's/[ :].*//'; }
+
+# takes NAME ALL: says what begins, and how long it takes where nothing of it is done yet
 takes() {
-    local minutes=$((($2 * $3 + 59) / 60)) many=s
+    local n minutes many=s
+    n=$(grep -c . <<<"$2")
+    minutes=$(((n * 10 + 59) / 60))
     [ $minutes -gt 1 ] || many=''
-    say "proving and building $1, from $2 crates, this once: up to $minutes minute$many on two cores"
+    say "proving and building $1, from $n crates, this once: up to $minutes minute$many on two cores"
 }
+
+# made NAME: the file of a program, which rt makes where it runs it
+made() { echo "crates/$1/out/$1"; }
 
 make_program() {
     local all
-    all=$(reached "$1" | wc -l)
-    takes "$1" "$all" 4
-    ! is_lost "target/bin/$1" || rm -f "target/stamp/$1" # rt makes no program of a crate that it has as proved
-    check_shown "$1" "$all" "$1"
+    all=$(names "$1")
+    takes "$1" "$all"
+    rt_in "$1" "$1" "$all" rt run
 }
 
-# the crates with a call for C
-exporting() { grep -l '#\[no_mangle\]' crates/*/src/*.rt | cut -d/ -f2 | sort -u; }
+# the crates whose functions C calls: the static libraries of crates.txt
+exporting() { sed -n 's/^\([a-z0-9_]*\) staticlib.*/\1/p' crates.txt; }
 
 make_library() {
-    local crate all n script="create target/host/libzikombaru.a"$'\n'
-    local below=($(reached "$@" | cut -d: -f1 | grep -v -x -F -f <(printf '%s\n' "$@")))
-    n=${#below[@]}
-    all=$((n + $#))
-    takes "the library for C" "$all" 4
-    check_shown library "$all" "${below[@]}" || return
+    local crate all file script="create target/host/libzikombaru.a"$'\n'
+    all=$(names "$@")
+    takes "the library for C" "$all"
     for crate in "$@"; do
-        n=$((n + 1))
-        script+="addlib target/staticlib/lib$crate.a"$'\n'
-        is_built "target/staticlib/lib$crate.a" "$crate" && continue
-        rt_for "lib$crate" rt staticlib "$crate" >/dev/null || return
-        kept "target/staticlib/lib$crate.a" "$(sum_of "$crate")"
-        say "proved $n of $all: $crate"
+        file=crates/$crate/out/lib$crate.a
+        script+="addlib $file"$'\n'
+        is_built "$file" "$crate" && continue
+        rt_in "$crate" "lib$crate" "$all" rt lib || return
+        kept "$file" "$(sum_of "$crate")"
     done
     mkdir -p target/host
-    "$kit/bin/llvm-ar" -M <<<"${script}save"$'\nend'
+    "$kit/toolchain/bin/llvm-ar" -M <<<"${script}save"$'\nend'
 }
 
 library() {
@@ -173,7 +183,7 @@ library() {
 }
 
 program() {
-    once "target/bin/$1" make_program "$1"
+    once "$(made "$1")" make_program "$1"
 }
 
 everything() {

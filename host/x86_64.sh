@@ -2,8 +2,8 @@
 # build and run x86-64 programs here.
 #
 # The kit compiles Rattle for x86-64 Linux. On such a machine gcc and cargo make C and Rust, and programs run as they
-# are. On another (Arm) Debian's cross compilers make them, and the kit's emulator runs them; Rust's programs, on which
-# that one breaks off, run under Debian's. Nothing is installed here: host/packages does that.
+# are. On another (Arm) Debian's cross compilers make them, and Debian's user emulator runs them. Nothing is installed
+# here: host/packages does that.
 #
 # Sets: host_cc, host_run (words before a program, with the kit's loader and C library), host_bare (words before one
 # that is linked statically), host_rust (words before one of Rust's), host_cargo (an array), host_target (cargo's

@@ -1,6 +1,7 @@
 # The things of Rattle's and antt's files, one a line: kind, name, file, text in one line, lines. Used by tools/moved.
-# A declaration of antt starts at its section's indentation with 'NAME :', and ends where the next one starts; 'data'
-# and 'record' hold what is indented below them; the heads of the sections that it stands in are part of its text.
+# A declaration of antt starts at its section's indentation with 'NAME :' or 'ruleset NAME =', and ends where the next
+# one starts; 'data' and 'record' hold what is indented below them; the heads of the sections that it stands in are part
+# of its text. Of a function's attributes those that name tactics are of its proof, the others of its promise.
 function flush() {
     if (thing != "") {
         gsub(/[ ]+/, " ", text)
@@ -21,11 +22,13 @@ FNR == 1 {
     opening = 0
     inside = 0
     infn = 0
-    attribute = ""
+    attribute = tactics = ""
+    unended = 0
     n = split(FILENAME, path, "/")
     rattle = FILENAME ~ /\.rt$/
-    walk = path[n] == "Proof.antt"
-    if (walk) begin("proofs", "proof of " path[n - 1] " (" path[2] ")", "")
+    walk = path[n] ~ /^(Proof|Answers|Invariants)\.antt$/
+    if (walk)
+        begin("proofs", (path[n] ~ /^I/ ? "invariants of " : "proof of ") path[n - 1] " (" path[2] ")", "")
 }
 /^ *(--|\/\/)/ || /^ *$/ { next }
 /^ *((pub|ghost) )?use / || /^ *(pub )?mod / { next }
@@ -33,25 +36,30 @@ walk { add($0); next }
 
 # ---- Rattle: a function's signature and clauses, its body; types and constants
 rattle && infn == 1 { # the signature, up to the body's brace
+    if ($0 ~ /^\{\}$/) { infn = 0; flush(); next }
     add($0)
-    if ($0 ~ /^ *\{$/ || $0 ~ / \{$/) { infn = 2; begin("code", called, "") }
+    if ($0 ~ /^\{$/ || ($0 ~ / \{$/ && $0 !~ /^ *(requires|ensures) /)) { infn = 2; begin("code", called, "") }
     next
 }
 rattle && infn == 2 {
     if ($0 ~ /^\}/) { infn = 0; flush() } else add($0)
     next
 }
-rattle && /^#\[/ { # an attribute is of the thing behind it
-    flush()
-    attribute = attribute $0
+rattle && (unended || /^#\[/) { # an attribute is of the thing behind it
+    if (!unended) flush()
+    if (unended ? intactics : /^#\[tactic/) tactics = tactics " " $0
+    else attribute = attribute $0
+    intactics = unended ? intactics : /^#\[tactic/
+    unended = $0 !~ /\]$/
     next
 }
 rattle && /^(pub )?(extern "C" )?fn / {
     called = $0
     sub(/^.*fn /, "", called)
     sub(/[(<].*$/, "", called)
+    if (tactics != "") begin("proofs", "tactics of " called " (" path[2] ")", tactics)
     begin("promises", called, attribute)
-    attribute = ""
+    attribute = tactics = ""
     add($0)
     infn = 1
     if ($0 ~ /[{] .* [}]$/) { infn = 0; flush() } else if ($0 ~ /\{$/) { infn = 2; begin("code", called, "") }
@@ -86,6 +94,14 @@ opening { # a section's head that goes on
     level[depth] = at + 2
     head[depth] = $0
     opening = $0 !~ /where$/
+    next
+}
+at == (depth ? level[depth] : 0) && /^ *ruleset (pub )?[^ (]+ =/ {
+    called = $0
+    sub(/^ *ruleset (pub )?/, "", called)
+    sub(/ .*$/, "", called)
+    begin("proofs", called, heads())
+    add($0)
     next
 }
 at == (depth ? level[depth] : 0) && /^ *((abbrev|unfoldable) )?(pub )?((data|record) )?[^ (]+ .*:/ {
