@@ -5,8 +5,8 @@
 #![tactic(auto)]
 
 ghost use Rattle.std.specs.Prelude.{◌≡◌, [], ◌∷◌, ◌+◌, ◌%◌};
-ghost use Rattle.hex_digits.specs.Hex.{hex as hexText};
-ghost use Rattle.answers.specs.Answers.{Adds, decimal as decimalText};
+ghost use Rattle.hex_digits.specs.Hex.{hex as hex_text};
+ghost use Rattle.answers.specs.Answers.{Adds, decimal as decimal_text};
 
 use answers::Text;
 
@@ -35,7 +35,7 @@ pub fn put(t: Text, b: u8) -> Text
 
 // So many hex digits behind a text.
 pub fn hex(t: Text, width: usize, v: u16) -> Text
-    ensures { Adds t (hexText width v) result }
+    ensures { Adds t (hex_text width v) result }
 {
     if width == 0 {
         return t;
@@ -44,8 +44,9 @@ pub fn hex(t: Text, width: usize, v: u16) -> Text
 }
 
 // A decimal number of at most so many digits behind a text.
+#[tactic(auto, using(answers::proofs::Adds::decimal_last))]
 pub fn decimal(t: Text, most: usize, n: u16) -> Text
-    ensures { Adds t (decimalText most n) result }
+    ensures { Adds t (decimal_text most n) result }
 {
     if most == 0 {
         return t;

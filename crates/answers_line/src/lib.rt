@@ -5,8 +5,8 @@
 #![tactic(auto)]
 
 ghost use Rattle.std.specs.Prelude.{[], ◌∷◌, ◌++◌, ◌+◌, ◌<◌, take};
-ghost use Rattle.hex_digits.specs.Hex.{hex as hexText};
-ghost use Rattle.answers.specs.Answers.{Says, decimal as decimalText, colour_text, refused_text, news_text};
+ghost use Rattle.hex_digits.specs.Hex.{hex as hex_text};
+ghost use Rattle.answers.specs.Answers.{Says, decimal as decimal_text, colour_text, refused_text, news_text};
 
 use answers::{News, Text};
 use answers_digits::{decimal, hex, put};
@@ -14,7 +14,7 @@ use answers_digits::{decimal, hex, put};
 // A name of so many bytes, a decimal number of at most so many digits, and LF.
 fn count(name: [u8; 16], len: usize, most: usize, n: u16) -> Text
     requires { len + most < 16 }
-    ensures { Says result (take len name ++ (decimalText most n ++ 10 ∷ [])) }
+    ensures { Says result (take len name ++ (decimal_text most n ++ 10 ∷ [])) }
 {
     let front = Text {
         bytes: name,
@@ -26,7 +26,7 @@ fn count(name: [u8; 16], len: usize, most: usize, n: u16) -> Text
 // A name, so many hex digits, and LF.
 fn field(name: [u8; 16], len: usize, width: usize, v: u16) -> Text
     requires { len + width < 16 }
-    ensures { Says result (take len name ++ (hexText width v ++ 10 ∷ [])) }
+    ensures { Says result (take len name ++ (hex_text width v ++ 10 ∷ [])) }
 {
     let front = Text {
         bytes: name,

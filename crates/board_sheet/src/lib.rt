@@ -5,7 +5,7 @@
 #![tactic(auto)]
 
 ghost use Rattle.std.specs.Prelude.{◌≡◌, ℕ, List};
-ghost use Rattle.port_log.specs.declared.Chip.TheVariants.{ChipA as chipA};
+ghost use Rattle.port_log.specs.declared.Chip.TheVariants.{ChipA as chip_a};
 ghost use Rattle.answers.specs.Answers.{Says, bad_text};
 ghost use Rattle.board.specs.Board.{whole, sheet_turn, StepTook};
 ghost use Rattle.board_sheet.specs.Listed.{Listed};
@@ -26,6 +26,7 @@ fn bad(board: Board) -> Step
 }
 
 // The writer's answer: so many bytes of the page, or the refusal.
+#[tactic(auto, using(crate::proofs::Sheets::listed_at))]
 fn told(board: Board, answer: Answer) -> Step
     ensures { (result.board ≡ board) × Listed answer result.text result.listed }
 {
@@ -45,11 +46,11 @@ fn told(board: Board, answer: Answer) -> Step
 
 // Chip A's sheet on the page, or its refusal.
 fn list<'a>(board: Board, colours: &'a [u8], overlays: &'a [u8], page: &mut [u8]) -> Step
-    ensures by_index { (queue map table : List ℕ)
+    ensures took_turn { (queue map table : List ℕ)
         → StepTook result colours.now overlays.now queue map table page.new
-        (sheet_turn chipA
+        (sheet_turn chip_a
         (whole board colours.now overlays.now queue map table page.old)) }
-    ensures board_value { result.board ≡ board }
+    ensures same_board { result.board ≡ board }
 {
     told(
         board,
@@ -58,12 +59,13 @@ fn list<'a>(board: Board, colours: &'a [u8], overlays: &'a [u8], page: &mut [u8]
 }
 
 // The sheet of the chip that has one.
+#[tactic(auto, using(board::proofs::Steps::sheet_at, crate::proofs::Sheets::took_bad))]
 pub fn sheet<'a>(board: Board, colours: &'a [u8], overlays: &'a [u8], page: &mut [u8]) -> Step
-    ensures by_index { (queue map table : List ℕ)
+    ensures took_turn { (queue map table : List ℕ)
         → StepTook result colours.now overlays.now queue map table page.new
         (sheet_turn board.chosen
         (whole board colours.now overlays.now queue map table page.old)) }
-    ensures board_value { result.board ≡ board }
+    ensures same_board { result.board ≡ board }
 {
     let chosen = board.chosen;
     match chosen {

@@ -5,10 +5,10 @@
 #![tactic(auto)]
 
 ghost use Rattle.std.specs.Prelude.{◌≡◌, ℕ, List};
-ghost use Rattle.hd153108.specs.Hd153108.{Chip as AChip, zeroed as aZeroed};
-ghost use Rattle.ms622424.specs.Ms622424.{resets as bResets, called as bCalled};
+ghost use Rattle.hd153108.specs.Hd153108.{Chip as AChip, zeroed as a_zeroed};
+ghost use Rattle.ms622424.specs.Ms622424.{resets as b_resets, called as b_called};
 ghost use Rattle.ms622424_places.specs.Places.{handed, view};
-ghost use Rattle.rgb640.specs.Rgb640.{Chip as CChip, zeroed as cZeroed};
+ghost use Rattle.rgb640.specs.Rgb640.{Chip as CChip, zeroed as c_zeroed};
 ghost use Rattle.board.specs.Board.{whole, revised, started};
 
 use board::Board;
@@ -19,7 +19,7 @@ use rgb640::State as CState;
 
 // Chip A after its first reset, which reads nothing of the state before.
 fn a_start() -> AState
-    ensures { result ≡ aZeroed }
+    ensures { result ≡ a_zeroed }
 {
     let k = hd153108::Clock {
         timing: 0,
@@ -70,9 +70,10 @@ fn b_given() -> BState
     }
 }
 
+#[tactic(auto, using(board::proofs::Resets::b_left))]
 fn b_start(queue: &[u64]) -> BState
     ensures { (map : List ℕ) → view (handed result queue.now map)
-        ≡ (bCalled bResets (view (handed revised queue.now map))).left }
+        ≡ (b_called b_resets (view (handed revised queue.now map))).left }
 {
     let r = ms622424_reset::zk_b_reset(b_given(), queue);
     let s = r.state;
@@ -81,7 +82,7 @@ fn b_start(queue: &[u64]) -> BState
 
 // Chip C after its first reset, which reads nothing of the state before either.
 fn c_start() -> CState
-    ensures { result ≡ cZeroed }
+    ensures { result ≡ c_zeroed }
 {
     let f = rgb640::Colour {
         red: 0,
@@ -102,6 +103,7 @@ fn c_start() -> CState
 }
 
 // The board at the start.
+#[tactic(auto, using(board::proofs::Resets::starts))]
 pub fn start(queue: &[u64]) -> Board
     ensures { (a : AChip) (map : List ℕ) (c : CChip) (page : List ℕ)
         → whole result a.colours a.overlays queue.now map c.table page

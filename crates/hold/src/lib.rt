@@ -28,6 +28,7 @@ pub struct Heard {
 }
 
 // A byte that ends no line is held while there is room: how many are held then.
+#[tactic(auto, using(crate::proofs::Holds::holds_room, crate::proofs::Holds::holds_full))]
 fn hold_byte(b: u8, hold: &mut [u8], len: usize) -> usize
     ensures { held hold.new result ≡ holding b (held hold.old len) }
 {
@@ -39,6 +40,7 @@ fn hold_byte(b: u8, hold: &mut [u8], len: usize) -> usize
 }
 
 // The bytes before the first LF are held while there is room.
+#[tactic(auto, using(crate::proofs::Texts::before_lf, crate::proofs::Texts::before_all))]
 pub fn scan(text: &[u8], hold: &mut [u8], len: usize) -> Span
     ensures { (result.before ≡ before text.now)
         × (held hold.new result.len ≡ held_of text.now (held hold.old len)) }

@@ -1,8 +1,8 @@
 // The board's own lines of a port log, the expander, the sheet and the choice of a chip; a look; or a bad line.
 //
-// The replay's line forms decide; they are `board_forms` and `look_forms` of log's specs/Log.antt. Not modelled: as in
-// log.
-#![tactic(auto)]
+// The replay's line forms decide; they are `board_forms` and `look_forms` of port_log's specs/Log.antt. Not modelled:
+// as in port_log.
+#![tactic(auto, using(port_log::proofs::Patterns::forms))]
 
 ghost use Rattle.std.specs.Prelude.{◌≡◌, ◌++◌};
 ghost use Rattle.port_log.specs.Log.{said, board_forms, choices, look_forms};

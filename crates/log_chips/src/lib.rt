@@ -1,7 +1,8 @@
 // The lines of a port log that one chip alone has, chip A's and chip B's; or one that log_board reads.
 //
-// The replay's line forms decide; they are `a_forms` and `b_forms` of log's specs/Log.antt. Not modelled: as in log.
-#![tactic(auto)]
+// The replay's line forms decide; they are `a_forms` and `b_forms` of port_log's specs/Log.antt. Not modelled: as in
+// port_log.
+#![tactic(auto, using(port_log::proofs::Patterns::forms))]
 
 ghost use Rattle.std.specs.Prelude.{◌≡◌, ◌++◌};
 ghost use Rattle.port_log.specs.Log.{said, a_forms, b_forms, board_forms, look_forms, shows};

@@ -1,8 +1,8 @@
 // A line of a port log, from bytes to what it asks for.
 //
-// The replay's line forms decide; specs/Log.antt of crate log says each as a pattern, and `parse` equals it for any
-// bytes. A line is given without its LF. Not modelled: as in log.
-#![tactic(auto)]
+// The replay's line forms decide; specs/Log.antt of port_log says each as a pattern, and `parse` equals it for any
+// bytes. A line is given without its LF. Not modelled: as in port_log.
+#![tactic(auto, using(port_log::proofs::Patterns::forms))]
 
 ghost use Rattle.std.specs.Prelude.{◌≡◌};
 ghost use Rattle.port_log.specs.Log.{line_of};

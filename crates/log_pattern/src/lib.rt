@@ -1,11 +1,11 @@
 // A pattern of a port log's line: whether a line has it.
 //
-// The replay's line forms decide; specs/Pattern.antt says what a pattern is. The forms, and what each says, are in log.
-// Not modelled: patterns of more than one length.
+// The replay's line forms decide; specs/Pattern.antt says what a pattern is. The forms, and what each says, are in
+// port_log. Not modelled: patterns of more than one length.
 #![tactic(auto)]
 
 ghost use Rattle.std.specs.Prelude.{◌≡◌};
-ghost use Rattle.log_pattern.specs.Pattern.{is_digit, stands as stands_for, fits as fitsPattern};
+ghost use Rattle.log_pattern.specs.Pattern.{is_digit, stands as stands_for, fits as fits_pattern};
 
 // Whether a byte is a hex digit.
 fn is_digit(b: u8) -> bool
@@ -35,7 +35,7 @@ fn stands(p: u8, b: u8) -> bool
 
 // Whether a line has a pattern.
 pub fn fits(pattern: &[u8], t: &[u8]) -> bool
-    ensures { result ≡ fitsPattern pattern.now t.now }
+    ensures { result ≡ fits_pattern pattern.now t.now }
 {
     if pattern.len() != t.len() {
         return false;

@@ -31,6 +31,7 @@ fn map_look(place: u32, map: &[u8]) -> Looked
 }
 
 // A look at a chip in range: places 0 to 8 are of the state, and how many wait; 12 is the first position.
+#[tactic(auto, using(crate::proofs::Places::state_told))]
 fn look_at(s: State, place: u32, queue: &[u64], map: &[u8]) -> Looked
     requires { InRange (view (handed s queue.now map.now)) }
     ensures { looking result (view (handed s queue.now map.now))

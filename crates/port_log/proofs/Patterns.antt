@@ -85,3 +85,20 @@ said_long (f ∷ fs) t e h =
 pub line_long : (t : List ℕ) → 16 ≤ length t → line_of t ≡ Bad
 unfolding short
 line_long t h = said_long _ t refl h
+
+-- what a line says, by the first form that it has
+pub ruleset forms = (
+  said_first,
+  said_next,
+  said_none,
+  says_write,
+  says_read,
+  says_pixel,
+  says_blank,
+  says_sync,
+  says_expand,
+  says_shown,
+  says_look,
+  shows_it,
+  shows_not,
+)

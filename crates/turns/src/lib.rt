@@ -6,14 +6,14 @@
 #![tactic(auto)]
 
 ghost use Rattle.expand.specs.Expand.{meaning};
-ghost use Rattle.answers.specs.Answers.{Says, told as toldText, ten_text};
+ghost use Rattle.answers.specs.Answers.{Says, told as told_text, ten_text};
 ghost use Rattle.turns.specs.Turns.{expand_text};
 
 use answers::{News, Text};
 use expand::Expanded;
 
 fn ten(e: Expanded) -> Text
-    ensures { Says result (toldText (meaning e).refusal (ten_text (meaning e).value)) }
+    ensures { Says result (told_text (meaning e).refusal (ten_text (meaning e).value)) }
 {
     match e {
         Expanded::Ten(t) => answers_told::told(0, News::Ten(t)),

@@ -14,7 +14,7 @@ use Rattle.port_log.specs.declared.CallA.TheVariants.{Tick}
 use Rattle.answers.specs.declared.Text.{Text}
 use Rattle.answers.specs.Answers.{Says, told, ok_text}
 use Rattle.turns.specs.Turns.{done, Took}
-use Rattle.turns.proofs.Told.{took_done}
+use Rattle.turns.proofs.Told.{took_bad, took_done, took_valued, took_sighted, took_poured}
 use Rattle.turns_a.specs.declared.ATurn.{ATurn}
 use Rattle.turns_a.specs.Turns.{a_turn, a_own, ATook}
 
@@ -47,3 +47,6 @@ module _ (cs os : List ℕ) where
       → ((xs ys : List ℕ) → ATook t xs ys (done (called ticks (chip s xs ys))))
       → ATook t cs os (a_own call (chip s cs os))
   at_tick s m h = rw m (h cs os)
+
+-- which call was matched, and how its outcome is told; the reset and the tick are lent no table, and promise it for any
+pub ruleset arms = (at_call, at_own, at_tick, same_chip, reset_done, tick_done, took_bad, took_done, took_valued, took_sighted, took_poured)

@@ -2,12 +2,12 @@
 //
 // The replay's description decides; specs/Turns.antt says which call of the chip is made and how its outcome is told.
 // The tables are lent, the state goes in and comes back by value. Not modelled: as in turns.
-#![tactic(auto)]
+#![tactic(auto, using(crate::proofs::Arms::arms))]
 
 ghost use Rattle.std.specs.Prelude.{ℕ, List};
 ghost use Rattle.hd153108.specs.Hd153108.{chip, ticks, looks, called};
 ghost use Rattle.answers.specs.Answers.{ok_text, news_text};
-ghost use Rattle.turns.specs.Turns.{done as doneTurn, sighted, Told};
+ghost use Rattle.turns.specs.Turns.{done as done_turn, sighted, Told};
 ghost use Rattle.turns_a.specs.Turns.{a_turn, a_own, ATook};
 
 use answers::{News, Text};
@@ -45,7 +45,7 @@ fn done(r: Answer) -> ATurn
 
 // A tick of the clock.
 fn ticked(s: State) -> ATurn
-    ensures { (cs os : List ℕ) → ATook result cs os (doneTurn (called ticks (chip s cs os))) }
+    ensures { (cs os : List ℕ) → ATook result cs os (done_turn (called ticks (chip s cs os))) }
 {
     let r = hd153108_tick::zk_a_step(s.clock);
     let k = r.clock;

@@ -11,7 +11,7 @@ use Rattle.port_log.specs.declared.CallB.{CallB}
 use Rattle.port_log.specs.declared.CallB.TheVariants.{Sync}
 use Rattle.answers.specs.Answers.{Says, told, ok_text, sync_text}
 use Rattle.turns.specs.Turns.{done, signalled, Took}
-use Rattle.turns.proofs.Told.{took_done, took_signalled}
+use Rattle.turns.proofs.Told.{took_bad, took_done, took_valued, took_sighted, took_moved, took_signalled, took_poured}
 use Rattle.turns_b.specs.declared.BTurn.{BTurn}
 use Rattle.turns_b.specs.Turns.{b_turn, b_own, BTook}
 
@@ -43,3 +43,6 @@ module _ (queue map : List ℕ) where
       → ((m : List ℕ) → BTook t queue m (signalled (called (signals k) (view (handed s queue m)))))
       → BTook t queue map (b_own call (view (handed s queue map)))
   at_sync s t k m h = rw m (h map)
+
+-- which call was matched, and how its outcome is told; the reset and the signals are lent no map, and promise it for any
+pub ruleset arms = (at_call, at_own, at_sync, same_chip, reset_done, sync_done, took_bad, took_valued, took_sighted, took_moved, took_poured)

@@ -3,10 +3,10 @@
 // The replay's description decides; specs/Turns.antt says which call of the chip is made and how its outcome is told,
 // of the chip that the state and the lent tables are (`view`). The queue and the map are lent, the state goes in and
 // comes back by value. Not modelled: as in turns.
-#![tactic(auto)]
+#![tactic(auto, using(crate::proofs::Arms::arms))]
 
 ghost use Rattle.std.specs.Prelude.{ℕ, List};
-ghost use Rattle.ms622424.specs.Ms622424.{signals as signalsCall, looks, called};
+ghost use Rattle.ms622424.specs.Ms622424.{signals as signals_call, looks, called};
 ghost use Rattle.ms622424_places.specs.Places.{handed, view};
 ghost use Rattle.answers.specs.Answers.{ok_text, news_text};
 ghost use Rattle.turns.specs.Turns.{signalled, sighted, Told};
@@ -48,7 +48,7 @@ fn done(r: Answer) -> BTurn
 // The timing signals through the pipe.
 fn sync(s: State, signals: u8, queue: &[u64]) -> BTurn
     ensures { (map : List ℕ) → BTook result queue.now map
-        (signalled (called (signalsCall signals) (view (handed s queue.now map)))) }
+        (signalled (called (signals_call signals) (view (handed s queue.now map)))) }
 {
     let r = ms622424_signals::zk_b_sync(s, signals, queue);
     told(r, News::Sync(r.value))

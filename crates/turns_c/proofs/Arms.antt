@@ -8,7 +8,7 @@ use Rattle.rgb640.specs.Rgb640.{Chip, chip, outcome, called, resets}
 use Rattle.port_log.specs.declared.Call.{Call}
 use Rattle.answers.specs.Answers.{Says, told, ok_text}
 use Rattle.turns.specs.Turns.{done}
-use Rattle.turns.proofs.Told.{took_done}
+use Rattle.turns.proofs.Told.{took_bad, took_done, took_valued, took_sighted}
 use Rattle.turns_c.specs.declared.CTurn.{CTurn}
 use Rattle.turns_c.specs.Turns.{c_turn, CTook}
 
@@ -26,3 +26,6 @@ module _ (table : List ℕ) where
       → t.state ≡ r.state → Says t.text (told r.refusal ok_text)
       → CTook t table (done (called resets (chip s table)))
   reset_done s e k h = took_done (e table) (same_chip k) h
+
+-- which call was matched, and how its outcome is told; the reset is lent no table, and promises it for any
+pub ruleset arms = (at_call, same_chip, reset_done, took_bad, took_done, took_valued, took_sighted)

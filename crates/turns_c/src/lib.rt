@@ -2,7 +2,7 @@
 //
 // The replay's description decides; specs/Turns.antt says which call of the chip is made and how its outcome is told.
 // The table is lent, the state goes in and comes back by value. Not modelled: as in turns.
-#![tactic(auto)]
+#![tactic(auto, using(crate::proofs::Arms::arms))]
 
 ghost use Rattle.std.specs.Prelude.{◌≡◌};
 ghost use Rattle.rgb640.specs.Rgb640.{chip, looks, called};

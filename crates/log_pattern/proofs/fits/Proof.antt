@@ -10,11 +10,11 @@ use Rattle.log_pattern.proofs.Patterns.{fits_length, fits_all, fits_on, fits_not
 use Rattle.log_pattern.proofs.fits.Statement.{statement}
 use Rattle.log_pattern.proofs.fits.Tie as tie
 
-abbrev invariant-loop : tie.invariant-loop
+abbrev invariant-loop : tie.invariant-loop-i
 invariant-loop pattern t i₀ i =
     (i ≤ length t) × (length pattern ≡ length t) × (fits (drop i pattern) (drop i t) ≡ fits pattern t)
 
-abbrev decreases-loop : tie.decreases-loop
+abbrev decreases-loop : tie.decreases-loop-i
 decreases-loop pattern t i₀ i = length t - i
 
 ruleset ends = (fits_length, fits_all, fits_on, fits_not, not-true, not-false, rules)

@@ -10,15 +10,15 @@ use borrow.Author.Rules.{rules}
 use Rattle.ms622424_gather.proofs.gathered.Statement.{statement}
 use Rattle.ms622424_gather.proofs.gathered.Tie as tie
 
-abbrev invariant-loop : tie.invariant-loop
+abbrev invariant-loop : tie.invariant-loop-i
 invariant-loop queue from to bits₀ i₀ bits i =
     (from ≤ i) × (i ≤ to) × ((k : ℕ) → ltb bits (2 ^ k) ≡ all_below k (take (i - from) (drop from queue)))
 
-abbrev decreases-loop : tie.decreases-loop
+abbrev decreases-loop : tie.decreases-loop-i
 decreases-loop queue from to bits₀ i₀ bits i = to - i
 
 returns : tie.Need-returns invariant-loop decreases-loop
-returns c = let e : c.before.loop-i.i ≡ c.before.before.args.to = omega arith in rw e at c.before.loop-i.invariant.2
+returns c = let e : c.loop-i.i ≡ c.args.to = omega arith in rw e at c.loop-i.invariant.2
 
 pub gathered_spec : {M : Type 1} → statement M
 gathered_spec =

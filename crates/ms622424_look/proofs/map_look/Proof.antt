@@ -11,15 +11,8 @@ use Rattle.ms622424_look.proofs.map_look.Statement.{statement}
 use Rattle.ms622424_look.proofs.map_look.Tie as tie
 
 -- a byte of the map
-reads : tie.Need-shared-slice-read-seen-byte
+reads : tie.Need-bounds-map-place
 reads c = omega (arith, c.before.before.before.before.requires.1)
-
-returns-2 : tie.Need-returns-2
-returns-2 c = λ d g e.
-    let place = c.before.before.before.before.before.args.place in
-    let i = place - 0x10000 in
-    looked_as _ c.seen-byte.ensures
-    (accepts_as (look_map d g place i (omega arith) (omega arith)) (ap (λ (m : List ℕ). get_or m i 0) (sym e)))
 
 pub map_look_spec : {M : Type 1} → statement M
 map_look_spec =
@@ -28,7 +21,13 @@ map_look_spec =
     (λ c d g e.
     let h = c.before.before.before.requires.0 in
     looked_as _ c.refused.ensures (look_nowhere d g _ h.0 h.1 (λ l u. omega arith)))
-    (λ c. search rules) reads (λ c κs. search) returns-2 (λ c κs. search)
+    (λ c. search rules) reads (λ c κs. search)
+    (λ c d g e.
+    let place = c.before.before.before.before.before.args.place in
+    let i = place - 0x10000 in
+    looked_as _ c.seen_byte.ensures
+    (accepts_as (look_map d g place i (omega arith) (omega arith)) (ap (λ (m : List ℕ). get_or m i 0) (sym e))))
+    (λ c κs. search)
     (λ c d g e.
     let h = c.before.before.before.before.requires.0 in
-    looked_as _ c.refused2.ensures (look_nowhere d g _ h.0 h.1 (λ l u. omega arith))))
+    looked_as _ c.refused-2.ensures (look_nowhere d g _ h.0 h.1 (λ l u. omega arith))))

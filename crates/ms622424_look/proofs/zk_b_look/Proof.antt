@@ -11,15 +11,15 @@ use Rattle.ms622424_look.proofs.zk_b_look.Tie as tie
 abbrev given : tie.Start → Chip
 given c = view (handed c.args.s c.args.queue.now c.args.map.now)
 
-returns : tie.Need-returns
+returns : tie.Need-returns-then-refusal-ne0
 unfolding called_by
 returns c =
     let g = c.before.before.before.before.before in
     look_stops _ _ (found (look_places (given g)) g.args.place) (given g) _
-    c.before.before.standing-tables.ensures c.before.if1.true c.refused.ensures
+    c.before.before.standing_tables-refusal.ensures c.before.if-refusal-ne0.true c.refused.ensures
 
 pub zk_b_look_spec : {M : Type 1} → statement M
 zk_b_look_spec =
     tie.close
     (tie.spec (λ c κs. search) (λ c κs. search) returns
-    (λ c κs. past _ c.before.standing-tables.ensures c.if1.false) (λ c. c.look_at.ensures))
+    (λ c κs. past _ c.before.standing_tables-refusal.ensures c.if-refusal-ne0.false) (λ c. c.look_at.ensures))

@@ -12,11 +12,8 @@ pub read_palette_spec : {M : Type 1} → statement M
 unfolding answers
 read_palette_spec =
     tie.close
-    (tie.spec (λ c κs. search rules) (λ c q h. outside_refused _ q _ _ h c.before.if1.true c.refused.ensures)
+    (tie.spec (λ c κs. search rules) (λ c q h. search (outside_refused, rules))
     (λ c κs. search rules)
-    (λ c q h.
-    let waits = c.before.if2.true in
-    waiting_refused _ q _ _ h c.before.before.before.if1.false (λ z. omega (arith, waits, z))
-    c.refused2.ensures)
+    (λ c q h. waiting_refused _ q _ _ h (search rules) (λ z. omega arith) (search rules))
     (λ c. search rules) (λ c. search rules) (λ c. search rules) (λ c. search rules) (λ c κs. search rules)
     (λ c. search rules) (λ c κs. search rules) (λ c q h. search (palette_served, rules)))

@@ -1,6 +1,5 @@
 -- `make_room` promises the room, `take_byte` the byte taken on what that left, and `palette_written` joins the two.
--- The free place that `take_byte` asks is there once room is made (`has_room`). `.last .1 .1 .0` is a call's third
--- parameter as it left it: of `make_room` the map, of `take_byte` the queue.
+-- The free place that `take_byte` asks is there once room is made (`has_room`).
 use mathlib.Core.Path.{ap, ◌∙◌}
 use Rattle.ms622424.proofs.Write.{palette_written}
 use Rattle.ms622424_places.specs.declared.Answer.{Answer}
@@ -9,20 +8,15 @@ use Rattle.ms622424_places.proofs.Does.{has_room}
 use Rattle.ms622424_palette.proofs.with_room.Statement.{statement}
 use Rattle.ms622424_palette.proofs.with_room.Tie as tie
 
-take-byte-requires : tie.Need-take-byte-requires
-take-byte-requires c κs =
-    let room = c.before.before.before in
-    has_room _ _ room.make-room.new.1.1.0 _ _ room.before.before.before.before.before.requires
-    room.make-room.ensures
+take-byte-requires : tie.Need-take_byte-requires
+take-byte-requires c κs = has_room _ _ c.make_room-m.new.map _ _ c.requires c.make_room-m.ensures
 
 returns : tie.Need-returns
 returns c =
-    let take = c.before.before.before in
-    let room = take.before.before.before.before in
-    let r = room.make-room in
-    let t = take.take-byte in
-    ap (λ (x : Answer). seen (outcome x t.new.1.1.0 r.new.1.1.0)) c.accepted.ensures
-    ∙ palette_written _ _ r.ensures (t.ensures r.new.1.1.0)
+    let r = c.make_room-m in
+    let t = c.take_byte in
+    ap (λ (x : Answer). seen (outcome x t.new.queue r.new.map)) c.accepted.ensures
+    ∙ palette_written _ _ r.ensures (t.ensures r.new.map)
 
 pub with_room_spec : {M : Type 1} → statement M
 with_room_spec =

@@ -6,10 +6,7 @@ use Rattle.ms622424_queue.proofs.put.Tie as tie
 
 returns : tie.Need-returns
 returns c m =
-    let start = c.before.before.before.before.before.before.before in
-    let a = start.args in
-    put_last a.s a.queue.now _ start.requires.0 start.requires.2 _ _ (omega arith) (omega arith)
-    c.before.before.before.before.entry.ensures m
+    put_last c.args.s c.args.queue.now _ c.requires.0 c.requires.2 _ _ (omega arith) (omega arith) c.entry.ensures m
 
 pub put_spec : {M : Type 1} → statement M
 put_spec =

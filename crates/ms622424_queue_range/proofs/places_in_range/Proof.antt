@@ -4,23 +4,20 @@ use borrow.Author.Rules.{rules}
 use Rattle.ms622424_queue_range.proofs.places_in_range.Statement.{statement}
 use Rattle.ms622424_queue_range.proofs.places_in_range.Tie as tie
 
-returns : tie.Need-returns
+returns : tie.Need-returns-then-waiting-eq64
 returns c =
-    let start = c.before.before.before.before in
-    full_decides start.args.queue.now start.args.first start.requires.0 start.args.waiting _ _
-    c.before.before.if1.true start.requires.1 c.before.gathered.ensures c.gathered2.ensures
+    full_decides c.args.queue.now c.args.first c.requires.0 c.args.waiting _ _ c.if-waiting-eq64.true c.requires.1
+    c.gathered-front.ensures c.gathered-back.ensures
 
-returns-2 : tie.Need-returns-2
+returns-2 : tie.Need-returns-then-end-le64
 returns-2 c =
-    let start = c.before.before.before.before in
-    straight_decides start.args.queue.now start.args.first start.requires.0 start.args.waiting _ _
-    c.before.if2.true c.gathered3.ensures (omega arith)
+    straight_decides c.args.queue.now c.args.first c.requires.0 c.args.waiting _ _ c.if-end-le64.true
+    c.gathered.ensures (omega arith)
 
-returns-3 : tie.Need-returns-3
+returns-3 : tie.Need-returns
 returns-3 c =
-    let start = c.before.before.before.before.before in
-    round_decides start.args.queue.now start.args.first start.requires.0 start.args.waiting _ _
-    start.requires.1 (omega arith) start.requires.2 c.before.gathered4.ensures c.gathered5.ensures
+    round_decides c.args.queue.now c.args.first c.requires.0 c.args.waiting _ _ c.requires.1 (omega arith) c.requires.2
+    c.gathered-older.ensures c.gathered-younger.ensures
 
 pub places_in_range_spec : {M : Type 1} → statement M
 places_in_range_spec =

@@ -7,22 +7,14 @@ use borrow.Author.Rules.{rules}
 use Rattle.ms622424_queue_range.proofs.queue_in_range.Statement.{statement}
 use Rattle.ms622424_queue_range.proofs.queue_in_range.Tie as tie
 
-returns : tie.Need-returns
-returns c = sym (not_meets _ (λ g. let n = g.0 in omega arith))
-
-returns-2 : tie.Need-returns-2
-returns-2 c =
-    let a = c.before.before.before.before.before.args in
-    let many = how_many a.s.fifo a.queue.now in
-    sym (not_meets _ (λ g. let n = g.1.0 in omega arith))
-
-returns-3 : tie.Need-returns-3
-returns-3 c =
-    c.places-in-range.ensures
-    ∙ places_decide c.before.before.before.before.before.before.before.before.args.s _ [] (omega arith)
-    (omega arith)
+returns-3 : tie.Need-returns
+returns-3 c = c.places_in_range.ensures ∙ places_decide c.args.s _ [] (omega arith) (omega arith)
 
 pub queue_in_range_spec : {M : Type 1} → statement M
 queue_in_range_spec =
     tie.close
-    (tie.spec returns returns-2 (λ c. search rules) (λ c. search rules) (λ c κs. search rules) returns-3)
+    (tie.spec (λ c. sym (not_meets _ (λ g. let n = g.0 in omega arith)))
+    (λ c.
+    let many = how_many c.args.s.fifo c.args.queue.now in
+    sym (not_meets _ (λ g. let n = g.1.0 in omega arith)))
+    (λ c. search rules) (λ c. search rules) (λ c κs. search rules) returns-3)

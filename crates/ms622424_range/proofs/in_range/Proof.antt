@@ -9,12 +9,10 @@ use Rattle.ms622424_range.proofs.Standing.{queue_decides}
 use Rattle.ms622424_range.proofs.in_range.Statement.{statement}
 use Rattle.ms622424_range.proofs.in_range.Tie as tie
 
-returns-7 : tie.Need-returns-7
+returns-7 : tie.Need-returns
 returns-7 c =
-    let last = c.before.before.before.before.before.before.before in
-    let a = last.before.before.before.before.before.before.before.args in
-    c.queue-in-range.ensures
-    ∙ queue_decides (view (handed a.s a.queue.now [])) (omega arith) (omega arith) (omega arith) (omega arith)
+    c.queue_in_range.ensures
+    ∙ queue_decides (view (handed c.args.s c.args.queue.now [])) (omega arith) (omega arith) (omega arith) (omega arith)
     (omega arith) (omega arith) (omega arith) (omega arith)
 
 pub in_range_spec : {M : Type 1} → statement M

@@ -13,22 +13,22 @@ use Rattle.ms622424_read.proofs.zk_b_read.Tie as tie
 abbrev given : tie.Start → Chip
 given c = view (handed c.args.s c.args.queue.now c.args.map.now)
 
-known : (c : tie.Else1) → InRange (given c.before.before.before.before)
-known c = past _ c.before.standing-tables.ensures c.if1.false
+known : (c : tie.Else-refusal-ne0) → InRange (given c.before.before.before.before)
+known c = past _ c.before.standing_tables-refusal.ensures c.if-refusal-ne0.false
 
 -- the arms of the address's high byte and of the command
-returns-3 : tie.Need-returns-3
+returns-3 : tie.Need-returns-in-1
 unfolding register_at readable answers
 returns-3 c =
     let d = c.before.before in
-    accepts _ _ _ _ _ _ _ c.accepted2.ensures
-    (read_does _ _ (known d.before) 1 d.match.keys2 refl refl refl refl)
+    accepts _ _ _ _ _ _ _ c.accepted-in-1.ensures
+    (read_does _ _ (known d.before) 1 d.in-1.is refl refl refl refl)
 
-returns-5 : tie.Need-returns-5
+returns-5 : tie.Need-returns-in-3
 unfolding register_at readable answers
 returns-5 c =
-    accepts _ _ _ _ _ _ _ c.accepted3.ensures
-    (read_does _ _ (known c.before.before) 3 c.before.match.keys4 refl refl refl refl)
+    accepts _ _ _ _ _ _ _ c.accepted-in-3.ensures
+    (read_does _ _ (known c.before.before) 3 c.before.in-3.is refl refl refl refl)
 
 pub zk_b_read_spec : {M : Type 1} → statement M
 unfolding register_at readable answers
@@ -37,7 +37,7 @@ zk_b_read_spec =
     (tie.spec (λ c κs. search rules) (λ c κs. search rules)
     (λ c.
     refuses _ _ _ _ _ c.refused.ensures
-    (tried _ _ _ refl refl c.before.before.standing-tables.ensures c.before.if1.true))
+    (tried _ _ _ refl refl c.before.before.standing_tables-refusal.ensures c.before.if-refusal-ne0.true))
     (λ c. search rules) (λ c κs. search rules) (λ c. search rules) (λ c κs. search rules)
     (λ c κs. let h = known c.before in (h.size, h.address, h.counter)) (λ c κs. search rules)
     (λ c κs. (known c.before).counter) (λ c κs. search rules) (λ c κs. search rules)
@@ -45,13 +45,13 @@ zk_b_read_spec =
     (λ c.
     let d = c.before.before in
     accepts _ _ _ _ _ _ _ c.accepted.ensures
-    (read_does _ _ (known d.before) 0 d.match.keys1 refl refl refl refl)) returns-3
-    (λ c. rw c.before.match.keys3 (c.read-palette.ensures _ (known c.before.before)))
+    (read_does _ _ (known d.before) 0 d.in-0.is refl refl refl refl)) returns-3
+    (λ c. rw c.before.in-2.is (c.read_palette.ensures _ (known c.before.before)))
     returns-5
     (λ c.
     let d = c.before.before in
-    status_served _ _ _ _ _ (known d.before) d.match.keys5 c.before.status.ensures c.accepted4.ensures)
-    (λ c. rw c.before.match.keys6 (c.read-buffer.ensures _ _ (known c.before.before)))
-    (λ c. rw c.before.match.keys7 (c.read-ident.ensures _ _ (known c.before.before)))
-    (λ c. rw c.before.match.keys8 (c.end-read-mode.ensures _ _ (known c.before.before)))
-    (λ c. refuses _ _ _ _ _ c.refused2.ensures (search (known, not_read, rules))))
+    status_served _ _ _ _ _ (known d.before) d.in-4.is c.before.status.ensures c.accepted-in-4.ensures)
+    (λ c. rw c.before.in-5.is (c.read_buffer.ensures _ _ (known c.before.before)))
+    (λ c. rw c.before.in-6.is (c.read_ident.ensures _ _ (known c.before.before)))
+    (λ c. rw c.before.in-7.is (c.end_read_mode.ensures _ _ (known c.before.before)))
+    (λ c. refuses _ _ _ _ _ c.refused-in_default.ensures (search (known, not_read, rules))))

@@ -12,5 +12,5 @@ read_buffer_spec =
     tie.close
     (tie.spec (λ c κs. search rules) (λ c κs. search rules) (λ c κs. search rules)
     (λ c q m h. search (buffer_served, rules))
-    (λ c q m h. buffer_served _ q m _ h c.before.match.keys2 refl c.accepted2.ensures refl refl)
+    (λ c q m h. buffer_served _ q m _ h c.before.in-1.is refl c.accepted-in-1.ensures refl refl)
     (λ c q m h. search (blue_refused, rules)))

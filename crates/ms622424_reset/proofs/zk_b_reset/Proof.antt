@@ -6,31 +6,26 @@ use native.Mathlib.Omega.{arith}
 use Rattle.vocabulary.specs.Outcome.{accepting}
 use Rattle.ms622424.proofs.Reset.{reset_short, reset_outside, reset_does}
 use Rattle.ms622424_places.proofs.Does.{refuses, accepts, fresh_chip}
+use borrow.Author.Rules.{rules}
 use Rattle.ms622424_reset.proofs.zk_b_reset.Statement.{statement}
 use Rattle.ms622424_reset.proofs.zk_b_reset.Tie as tie
 
-returns : tie.Need-returns
-returns c m = refuses _ _ m _ _ c.refused.ensures (reset_short _ c.before.if1.true)
+short : tie.Need-returns-then-queue-ne64
+short c m = refuses _ _ m _ _ c.refused.ensures (reset_short _ c.before.if-queue-ne64.true)
 
-returns-2 : tie.Need-returns-2
-returns-2 c m =
-    refuses _ _ m _ _ c.refused2.ensures (reset_outside _ c.before.before.before.if1.false (λ g. omega arith))
-
-returns-3 : tie.Need-returns-3
-returns-3 c m =
-    refuses _ _ m _ _ c.refused3.ensures
-    (reset_outside _ c.before.before.before.before.before.if1.false (λ g. omega arith))
-
-returns-4 : tie.Need-returns-4
-returns-4 c m =
+accepted : tie.Need-returns
+accepted c m =
     let past = c.before.before.before.before.before.before in
     let a = past.before.before.args in
     accepts a.s a.queue.now m _ _ _ _ c.accepted.ensures
     (ap (accepting 0 0) (fresh_chip a.s a.queue.now m _ _ (omega arith) (omega arith))
-    ∙ reset_does _ past.if1.false (omega arith, (omega arith, tt)))
+    ∙ reset_does _ past.if-queue-ne64.false (omega arith, (omega arith, tt)))
 
 pub zk_b_reset_spec : {M : Type 1} → statement M
 zk_b_reset_spec =
     tie.close
-    (tie.spec (λ c κs. search) returns (λ c κs. search) returns-2 (λ c κs. search) returns-3 (λ c κs. search)
-    returns-4)
+    (tie.spec (λ c κs. search) short (λ c κs. search)
+    (λ c m. refuses _ _ m _ _ (search rules) (reset_outside _ c.if-queue-ne64.false (λ g. omega arith)))
+    (λ c κs. search)
+    (λ c m. refuses _ _ m _ _ (search rules) (reset_outside _ c.if-queue-ne64.false (λ g. omega arith)))
+    (λ c κs. search) accepted)

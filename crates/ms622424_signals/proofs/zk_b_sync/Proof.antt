@@ -6,37 +6,36 @@ use native.Mathlib.Omega.{arith}
 use Rattle.ms622424.proofs.Signals.{signals_tried, signals_outside, signals_range, signals_does}
 use Rattle.ms622424_places.specs.Places.{handed, view}
 use Rattle.ms622424_places.proofs.Does.{refuses, accepts}
+use borrow.Author.Rules.{rules}
 use Rattle.ms622424_signals.proofs.zk_b_sync.Statement.{statement}
 use Rattle.ms622424_signals.proofs.zk_b_sync.Tie as tie
 
-returns : tie.Need-returns
-returns c m =
+refused : tie.Need-returns-then-refusal-ne0
+refused c m =
     refuses _ _ m _ _ c.refused.ensures
-    (signals_tried _ _ c.before.before.standing-queue.ensures c.before.if1.true)
-
-returns-2 : tie.Need-returns-2
-returns-2 c m =
-    let past = c.before.before in
-    refuses _ _ m _ _ c.refused2.ensures
-    (signals_outside _ _ past.before.standing-queue.ensures past.if1.false (omega arith))
+    (signals_tried _ _ c.before.before.standing_queue-refusal.ensures c.before.if-refusal-ne0.true)
 
 piped-requires : tie.Need-piped-requires
 piped-requires c κs =
     let past = c.before in
-    let e = past.before.standing-queue.ensures in
+    let e = past.before.standing_queue-refusal.ensures in
     let a = past.before.before.before.args in
-    let r = signals_range 0 (view (handed a.s a.queue.now [])) e past.if1.false in
+    let r = signals_range 0 (view (handed a.s a.queue.now [])) e past.if-refusal-ne0.false in
     (omega arith, omega arith)
 
-returns-3 : tie.Need-returns-3
-returns-3 c m =
+returns : tie.Need-returns
+returns c m =
     let past = c.before.before.before in
-    let e = past.before.standing-queue.ensures in
+    let e = past.before.standing_queue-refusal.ensures in
     accepts _ _ m _ _ _ _ c.accepted.ensures
-    (signals_does _ _ e past.if1.false (omega arith) c.before.piped.ensures)
+    (signals_does _ _ e past.if-refusal-ne0.false (omega arith) c.before.piped.ensures)
 
 pub zk_b_sync_spec : {M : Type 1} → statement M
 zk_b_sync_spec =
     tie.close
-    (tie.spec (λ c κs. search) (λ c κs. search) returns (λ c κs. search) returns-2 piped-requires
-    (λ c κs. search) returns-3)
+    (tie.spec (λ c κs. search) (λ c κs. search) refused (λ c κs. search)
+    (λ c m.
+    refuses _ _ m _ _ (search rules)
+    (signals_outside _ _ c.standing_queue-refusal.ensures c.if-refusal-ne0.false (omega arith)))
+    piped-requires
+    (λ c κs. search) returns)

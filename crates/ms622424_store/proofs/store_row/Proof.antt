@@ -12,35 +12,29 @@ use borrow.Author.Rules.{rules}
 use Rattle.ms622424_store.proofs.store_row.Statement.{statement}
 use Rattle.ms622424_store.proofs.store_row.Tie as tie
 
-abbrev invariant-loop : tie.invariant-loop
+abbrev invariant-loop : tie.invariant-loop-moved
 invariant-loop from waiting slots queue map₀ moved₀ map moved =
     (moved ≤ waiting) × (moved ≤ slots) × (map ≡ all_stored (entries_in (ringed from moved queue)) map₀)
 
-abbrev decreases-loop : tie.decreases-loop
+abbrev decreases-loop : tie.decreases-loop-moved
 decreases-loop from waiting slots queue map₀ moved₀ map moved = slots - moved
 
 -- stores keep the map's length, which each of them asks, and the return
-kept : (c : tie.At-loop invariant-loop decreases-loop) → length c.loop-moved.map-1 ≡ length c.before.before.before.args.map-1.now
+kept : (c : tie.At-loop-moved invariant-loop decreases-loop) → length c.loop-moved.map ≡ length c.args.map.now
 kept c = ap length c.loop-moved.invariant.2 ∙ all_stored_length _ _
 
 store-requires : tie.Need-store-requires invariant-loop decreases-loop
-store-requires c κs =
-    let start = c.before.before.before.before.before.before.before in
-    let at = c.before.before.before.before in (
-      kept at ∙ start.requires.0.0,
-      low_at start.args.queue.now (omega arith)
-          (start.requires.1 at.loop-moved.moved (omega arith)),
-    )
+store-requires c κs = (
+  ap length c.loop-moved.invariant.2 ∙ (all_stored_length _ _ ∙ c.requires.0.0),
+  low_at c.args.queue.now (omega arith) (c.requires.1 c.loop-moved.moved (omega arith)),
+)
 
 loop-again : tie.Need-loop-moved-preserved invariant-loop decreases-loop
-loop-again c =
-    let at = c.before.before.before.before.before.before.before in
-    let a = at.before.before.before.args in (
-      omega arith,
-      omega arith,
-      stored_next a.from a.queue.now _ at.loop-moved.moved (omega arith) c.before.before.store.ensures
-          at.loop-moved.invariant.2,
-    )
+loop-again c = (
+  omega arith,
+  omega arith,
+  stored_next c.args.from c.args.queue.now _ c.loop-moved.moved (omega arith) c.store.ensures c.loop-moved.invariant.2,
+)
 
 pub store_row_spec : {M : Type 1} → statement M
 unfolding all_stored ringed

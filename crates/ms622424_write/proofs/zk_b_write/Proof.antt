@@ -1,46 +1,45 @@
-use mathlib.Core.Path.{refl}
-use Rattle.ms622424.specs.Ms622424.{Chip, InRange, register_at, writable, written}
+-- What is tried first gives the refusal, or that all is in range (`past`); then by the select, each arm by its call's
+-- promise. A select that no arm names can't be written (`not_written`).
+use mathlib.Core.Path.{◌≡◌, refl}
+use native.Mathlib.Omega.{arith}
+use Rattle.ms622424.specs.Ms622424.{register_at, writable, written}
 use Rattle.ms622424.proofs.InRange.{past, tried}
 use Rattle.ms622424.proofs.Write.{write_does, not_written}
-use Rattle.ms622424_places.specs.Places.{handed, view}
 use Rattle.ms622424_places.proofs.Does.{refuses, accepts}
 use borrow.Author.Rules.{rules}
 use Rattle.ms622424_write.proofs.zk_b_write.Statement.{statement}
 use Rattle.ms622424_write.proofs.zk_b_write.Tie as tie
 
--- the chip as the call finds it, and what is known past what is tried first
-abbrev given : tie.Start → Chip
-given c = view (handed c.args.s c.args.queue.now c.args.map.now)
-
-known : (c : tie.Else1) → InRange (given c.before.before.before.before.before)
-known c = past _ c.before.standing-tables.ensures c.if1.false
-
--- the command's arm, and the one where the read mode begins
-returns-5 : tie.Need-returns-5
-returns-5 c = rw c.before.match.keys4 (c.set-command.ensures _ _ (known c.before.before))
-
-returns-6 : tie.Need-returns-6
-unfolding register_at writable written
-returns-6 c =
-    let d = c.before.before.before.before in
-    accepts _ _ _ _ _ _ _ c.accepted.ensures
-    (write_does _ _ _ (known d.before) (search rules) 7 d.match.keys5 refl refl refl)
-
 pub zk_b_write_spec : {M : Type 1} → statement M
+unfolding register_at writable written
 zk_b_write_spec =
     tie.close
     (tie.spec (λ c κs. search rules) (λ c κs. search rules) (λ c. search rules)
     (λ c.
     refuses _ _ _ _ _ c.refused.ensures
-    (tried _ _ _ refl refl c.before.before.standing-tables.ensures c.before.if1.true))
-    (λ c κs. search rules) (λ c κs. search rules) (λ c κs. known c.before.before.before) (λ c κs. search rules)
-    (λ c κs. search rules) (λ c κs. search rules) (λ c. search rules)
-    (λ c. rw c.before.match.keys1 (c.set-address-low.ensures _ _ (known c.before.before)))
-    (λ c. search rules)
-    (λ c. rw c.before.match.keys2 (c.set-address-high.ensures _ _ (known c.before.before)))
-    (λ c. search rules) (λ c. search rules)
+    (tried _ _ _ refl refl c.standing_tables-refusal.ensures (λ e. omega arith)))
+    (λ c κs. search rules) (λ c κs. search rules) (λ c κs. past _ c.standing_tables-refusal.ensures (omega arith))
+    (λ c κs. search rules) (λ c κs. search rules) (λ c κs. search rules) (λ c. search rules)
     (λ c.
-    let d = c.before.before.before.before in
-    rw d.before.before.before.match.keys3 d.write-palette.ensures)
-    (λ c. search rules) returns-5 (λ c. search rules) returns-6 (λ c. search rules)
-    (λ c. refuses _ _ _ _ _ c.refused2.ensures (search (known, not_written, rules))))
+    let e : c.args.select ≡ 0 = omega arith in
+    rw e (c.set_address_low.ensures _ _ (past _ c.standing_tables-refusal.ensures (omega arith))))
+    (λ c. search rules)
+    (λ c.
+    let e : c.args.select ≡ 1 = omega arith in
+    rw e (c.set_address_high.ensures _ _ (past _ c.standing_tables-refusal.ensures (omega arith))))
+    (λ c. search rules) (λ c. search rules)
+    (λ c. let e : c.args.select ≡ 2 = omega arith in rw e c.write_palette.ensures)
+    (λ c. search rules)
+    (λ c.
+    let e : c.args.select ≡ 3 = omega arith in
+    rw e (c.set_command.ensures _ _ (past _ c.standing_tables-refusal.ensures (omega arith))))
+    (λ c. search rules)
+    (λ c.
+    accepts _ _ _ _ _ _ _ c.accepted.ensures
+    (write_does _ _ _ (past _ c.standing_tables-refusal.ensures (omega arith)) (search rules) 7 (omega arith) refl refl
+    refl))
+    (λ c. search rules)
+    (λ c.
+    refuses _ _ _ _ _ c.refused-in_default.ensures
+    (not_written _ _ _ (past _ c.standing_tables-refusal.ensures (omega arith)) (search rules) (λ e. omega arith)
+    (λ e. omega arith) (λ e. omega arith) (λ e. omega arith) (λ e. omega arith))))
