@@ -21,9 +21,9 @@ fn store(map: &mut [u8], place: u64)
 
 // Each slot moves the oldest entry that is left of a row of places, if one is, into the map: how many they moved.
 fn store_row(from: usize, waiting: usize, slots: usize, queue: &[u64], map: &mut [u8]) -> usize
-    requires map_len { (length map.old ≡ 24576) × (length queue.now ≡ 64) × (from + waiting ≤ 64) }
-    requires by_index { (i : ℕ) → i < waiting → get_or queue.now ((from + i) % 64) 0 < 2 ^ 37 }
-    ensures value { result ≡ min slots waiting }
+    requires sizes { (length map.old ≡ 24576) × (length queue.now ≡ 64) × (from + waiting ≤ 64) }
+    requires places_low { (i : ℕ) → i < waiting → get_or queue.now ((from + i) % 64) 0 < 2 ^ 37 }
+    ensures count { result ≡ min slots waiting }
     ensures map_after { map.new
         ≡ all_stored (entries_in (ringed from result queue.now)) map.old }
 {
@@ -46,9 +46,9 @@ pub fn store_oldest(
     queue: &[u64],
     map: &mut [u8],
 ) -> usize
-    requires map_len { (length map.old ≡ 24576) × (length queue.now ≡ 64) × (first < 64) × (waiting ≤ 64) }
-    requires by_index { (i : ℕ) → i < waiting → get_or queue.now ((first + i) % 64) 0 < 2 ^ 37 }
-    ensures value { result ≡ min slots waiting }
+    requires sizes { (length map.old ≡ 24576) × (length queue.now ≡ 64) × (first < 64) × (waiting ≤ 64) }
+    requires places_low { (i : ℕ) → i < waiting → get_or queue.now ((first + i) % 64) 0 < 2 ^ 37 }
+    ensures count { result ≡ min slots waiting }
     ensures map_after { map.new
         ≡ all_stored (entries_in (ringed first result queue.now)) map.old }
 {
