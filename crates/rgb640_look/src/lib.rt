@@ -16,8 +16,8 @@ use vocabulary::Looked;
 
 // Past the state's places: the table's numbers from 0x10000 on.
 fn table_look(place: u32, table: &[u16]) -> Looked
-    requires le_place { 8 ≤ place }
-    requires table_len { length table.now ≡ 3072 }
+    requires past_state { 8 ≤ place }
+    requires table_whole { length table.now ≡ 3072 }
     ensures { (s : State) → InRange (chip s table.now)
         → looking result (chip s table.now) ≡ called (looks place) (chip s table.now) }
 {
