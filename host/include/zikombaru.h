@@ -2,7 +2,7 @@
  * C++11 on. It brings all parts: a header for each chip, for looks, for chip A's sheets, and for what they share.
  *
  * The library, libzikombaru.a, is for x86-64 Linux. It allocates nothing and makes no system call; of the C library it
- * needs memcpy alone.
+ * needs memcpy and memset alone.
  *
  * Conventions, for every call of this library:
  *
