@@ -14,13 +14,7 @@ use hd153108_port::{accepted, next_colour, next_overlay, refused};
 use hd153108_range::standing;
 
 // A write access. The colours or the overlays change at an accepted blue data write alone.
-pub fn zk_a_write(
-    s: State,
-    select: u8,
-    byte: u8,
-    colours: &mut [u8],
-    overlays: &mut [u8],
-) -> Answer
+pub fn zk_a_write(s: State, select: u8, byte: u8, colours: &mut [u8], overlays: &mut [u8]) -> Answer
     ensures { outcome result colours.new overlays.new
         ≡ called (writes select byte) (chip s colours.old overlays.old) }
 {

@@ -12,13 +12,7 @@ use ms622424_places::{Answer, State};
 use ms622424_port::{accepted, refused};
 
 // A write of a byte to a select.
-pub fn zk_b_write(
-    s: State,
-    select: u8,
-    byte: u8,
-    queue: &mut [u64],
-    map: &mut [u8],
-) -> Answer
+pub fn zk_b_write(s: State, select: u8, byte: u8, queue: &mut [u64], map: &mut [u8]) -> Answer
     ensures { Does (handed s queue.old map.old)
         (outcome result queue.new map.new) (called (writes select byte)) }
 {

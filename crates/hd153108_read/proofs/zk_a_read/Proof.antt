@@ -8,9 +8,19 @@ use borrow.Author.Rules.{rules}
 use Rattle.hd153108_read.proofs.zk_a_read.Statement.{statement}
 use Rattle.hd153108_read.proofs.zk_a_read.Tie as tie
 
-ruleset ends =
-    (reading, stopped, unserved, served, kept, colour_read, overlay_read, colour_room, overlay_room, pointer_low,
-    rules)
+ruleset ends = (
+  reading,
+  stopped,
+  unserved,
+  served,
+  kept,
+  colour_read,
+  overlay_read,
+  colour_room,
+  overlay_room,
+  pointer_low,
+  rules,
+)
 
 -- the needs that edits aim at, by their laws' terms: the address, the blink mask, no register
 returns-address : tie.Need-returns-in-0
