@@ -23,8 +23,7 @@ returns c =
 pub zk_b_blank_spec : {M : Type 1} → statement M
 zk_b_blank_spec =
     tie.close
-    (tie.spec (λ c κs. search rules) (λ c κs. search rules) (λ c. search (refuses, tried, rules)) (λ c κs. search rules)
-    (λ c.
-    refuses _ _ _ _ _ (search rules) (blank_too_many _ _ (known c.before.before) (omega arith)))
-    (λ c κs. known c.before.before)
-    (λ c κs. search rules) (λ c. search rules) returns)
+    (tie.spec (λ c κs. search rules) (λ c κs. search rules) (λ c. search (refuses, tried, rules))
+    (λ c κs. search rules)
+    (λ c. refuses _ _ _ _ _ (search rules) (blank_too_many _ _ (known c.before.before) (omega arith)))
+    (λ c κs. known c.before.before) (λ c κs. search rules) (λ c. search rules) returns)

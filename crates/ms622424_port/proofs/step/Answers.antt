@@ -1,5 +1,5 @@
 -- What a counter's arm leaves is what its component says (`is_red`, `is_green`, `is_blue`).
-use Rattle.std.proofs.Common.{◌≡◌, ◌+◌, ◌%◌, ℕ, refl, ap, arith}
+use Rattle.std.proofs.Common.{ℕ, refl, ap, arith}
 use Rattle.ms622424.specs.Ms622424.{stepped, port}
 use Rattle.ms622424.proofs.Access.{is_red, is_green, is_blue}
 use Rattle.ms622424_port.proofs.step.Goals as goal
