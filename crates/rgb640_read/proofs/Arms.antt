@@ -67,7 +67,8 @@ module _ (s : State) (t : List ℕ) where
         unfolding called_by
         no_port_lem g x y z e =
             let r = stands_range s t (sym f ∙ g) in
-            rw e (Access.no_port_lem [] (register_at port) _ _ _ r (state_passes _ r) (ap no_port (no_register_lem port x y z)))
+            rw e (Access.no_port_lem [] (register_at port) _ _ _ r (state_passes _ r)
+            (ap no_port (no_register_lem port x y z)))
 
       pub data_read_lem : port ≡ 6 → outcome a t ≡ called (reads 6) (chip s t)
           → outcome a t ≡ called (reads port) (chip s t)

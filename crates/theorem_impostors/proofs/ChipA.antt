@@ -6,7 +6,7 @@ use mathlib.Core.List.{[]}
 use native.Mathlib.Omega.{arith}
 use lib.ListN.{replicate}
 use Rattle.vocabulary.specs.Choice.{pick}
-use Rattle.hd153108.specs.Hd153108.{Chip, writes, reads, resets, ticks, pixels, looks, called}
+use Rattle.hd153108.specs.Hd153108.{Chip, called}
 use Rattle.theorem_scope_a.specs.Scope.{Good, of_lines, shown, Accesses}
 use Rattle.theorem_scope_a.proofs.Scope.{scope}
 use Rattle.theorem_impostors.specs.Impostors.{once, ImpostorsA}

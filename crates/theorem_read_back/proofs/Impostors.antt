@@ -10,7 +10,7 @@ use lib.Dec.{eqb}
 use lib.ListN.{length, get_or, take}
 use lib.Seq.{take_all}
 use Rattle.vocabulary.specs.Choice.{pick}
-use Rattle.vocabulary.specs.Component.{Component, red, green, blue, part, one_of}
+use Rattle.vocabulary.specs.Component.{Component, red, part, one_of}
 use Rattle.vocabulary.specs.Outcome.{Outcome}
 use Rattle.vocabulary.specs.Run.{after, Keeps}
 use Rattle.vocabulary.proofs.Choice.{cases, picks_first, picks_second}

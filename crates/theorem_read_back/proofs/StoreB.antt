@@ -11,7 +11,6 @@ use Rattle.vocabulary.specs.Choice.{pick}
 use Rattle.vocabulary.specs.Component.{Component, red, green, blue, one_of}
 use Rattle.vocabulary.specs.Outcome.{Outcome, accepting}
 use Rattle.vocabulary.specs.Reply.{Reply}
-use Rattle.vocabulary.specs.Run.{after}
 use Rattle.vocabulary.proofs.Choice.{cases, picks_first, picks_second}
 use Rattle.ms622424.specs.Ms622424.{Chip, Entry, InRange, port, control, with_port, with_control}
 use Rattle.ms622424.specs.Ms622424.{register_at, selected, stepped, complete, Moves, room_made, taken}

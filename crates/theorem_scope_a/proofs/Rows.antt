@@ -72,7 +72,8 @@ module _ (c : Chip) (g : Good c) where
   register_row select told set s w r = record { write = λ b h. goes (writing h) s (w b h); read = goes reading s r }
 
   -- ---- refused: no register is there, or the byte is none
-  pub no_register_lem : {k : Call} → Access k → no_register (register_at (select_of k)) ≡ true → called k c ≡ refusing 3 0 c
+  pub no_register_lem : {k : Call} → Access k → no_register (register_at (select_of k)) ≡ true
+      → called k c ≡ refusing 3 0 c
   no_register_lem u e = sym (no_access_lem c range u e)
 
   pub no_byte : (select b : ℕ) → 256 ≤ b → called (writes select b) c ≡ refusing 9 0 c

@@ -72,7 +72,8 @@ module _ (enable number byte : ℕ) (c : Chip) where
   abbrev entry_shown : Table → ℕ
   entry_shown t = shown_entry t number byte c.state
 
-  colour_word_lem : (t : Table) → colour_of (colour_at (entry_shown t) (table_of t c)) ≡ S.colour_at (entry_shown t) (table_of t c)
+  colour_word_lem : (t : Table)
+      → colour_of (colour_at (entry_shown t) (table_of t c)) ≡ S.colour_at (entry_shown t) (table_of t c)
   colour_word_lem t =
       let b = byte_at_lem (table_of t c) (entry_shown t) in
       rw (b 0 (omega arith), b 1 (omega arith), b 2 (omega arith), add-zero) refl

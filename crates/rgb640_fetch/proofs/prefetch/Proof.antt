@@ -10,4 +10,5 @@ prefetch_spec =
     tie.close
     (tie.spec (λ c κs. search rules)
     (λ c. fetches_entry_lem c.args.s.index (omega arith) (omega arith) _ _ c.fetch.ensures)
-    (λ c. sym (fetches_nothing_lem _ (λ l h. omega arith) _ _)) (λ c. sym (fetches_nothing_lem _ (λ l h. omega arith) _ _)))
+    (λ c. sym (fetches_nothing_lem _ (λ l h. omega arith) _ _))
+    (λ c. sym (fetches_nothing_lem _ (λ l h. omega arith) _ _)))

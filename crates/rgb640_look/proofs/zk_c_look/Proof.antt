@@ -22,4 +22,5 @@ pub zk_c_look_spec : {M : Type 1} → statement M
 zk_c_look_spec =
     tie.close
     (tie.spec (λ c κs. search) (λ c κs. search) returns
-    (λ c κs. stands_range _ _ (sym c.before.standing_of-refusal.ensures ∙ c.if-refusal-ne0.false)) (λ c. c.look_at.ensures))
+    (λ c κs. stands_range _ _ (sym c.before.standing_of-refusal.ensures ∙ c.if-refusal-ne0.false))
+    (λ c. c.look_at.ensures))
