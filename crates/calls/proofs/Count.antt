@@ -60,7 +60,8 @@ register_bound s (Missing ∷ l) = omega (arith, register_bound (s + 1) l)
 
 -- the list's length, and at most 786
 pub length_calls : (l : List Line) → length (calls_of l)
-    ≡ length (register_calls 4 (registers_of l)) + (table_count false (overlays_of l) + table_count false (colours_of l))
+    ≡ length (register_calls 4 (registers_of l))
+    + (table_count false (overlays_of l) + table_count false (colours_of l))
 unfolding calls_of
 length_calls l =
     simp length-append (omega (arith, count_is 3 0 false (overlays_of l), count_is 1 0 false (colours_of l)))

@@ -99,7 +99,8 @@ module _ (t kept : List ℕ) {n : ℕ} (line : n ≡ bad_line (sheet_of t)) (rea
         refl (refl, (refl, (refl, (refl, (refl, (refl, (refl, (refl, tt)))))))) (lt-ltb (length out) bytes short))
 
     pub done : {left : List ℕ} → 2 * count ≤ length out
-        → left ≡ pasted out 0 (call_bytes (calls_of (map line_for kept))) → outcome (Done count) left ≡ sheet_to_calls t out
+        → left ≡ pasted out 0 (call_bytes (calls_of (map line_for kept)))
+        → outcome (Done count) left ≡ sheet_to_calls t out
     unfolding sheet_to_calls
     done h f =
         let room = calls_fit kept out counts h in

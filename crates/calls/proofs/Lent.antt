@@ -81,7 +81,8 @@ map_drop (suc n) (x ∷ l) = map_drop n l
 pub overlays_kept : (kept : List ℕ) → map line_for (take 4 (drop 5 kept)) ≡ overlays_of (map line_for kept)
 overlays_kept kept = map_take 4 (drop 5 kept) ∙ ap (take 4) (map_drop 5 kept)
 
-pub colours_kept : (kept : List ℕ) → map line_for (take (length kept - 9) (drop 9 kept)) ≡ colours_of (map line_for kept)
+pub colours_kept : (kept : List ℕ)
+    → map line_for (take (length kept - 9) (drop 9 kept)) ≡ colours_of (map line_for kept)
 colours_kept kept =
     ap (map line_for) (take_all (length kept - 9) (drop 9 kept) (simp length-drop (omega arith))) ∙ map_drop 9 kept
 
@@ -126,7 +127,11 @@ module _ (kept out : List ℕ) (fits : length (call_bytes (calls_of (map line_fo
 
   pub registers_fit : Kept kept → 8 ≤ length out
   registers_fit k =
-      omega (arith, ap length (register_bytes kept k), sum out registers tables _ (calls_split (map line_for kept)) fits)
+      omega (
+        arith,
+        ap length (register_bytes kept k),
+        sum out registers tables _ (calls_split (map line_for kept)) fits,
+      )
 
   module _ {e : List ℕ} {n : ℕ} (wrote : Wrote out 0 registers n e) where
     pub calls_inside : n ≤ length e

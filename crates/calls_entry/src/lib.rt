@@ -1,7 +1,7 @@
 // One entry's calls into a buffer: its address write, unless it follows the entry before it, and its colour's three.
 //
-// Document 01, "The sheet and its calls", decides; the calls are `entry_calls` of calls' specs/Calls.antt. A call is two
-// bytes, select and byte; bytes past them keep their values. The colour's are in calls_colour. Not modelled: as in
+// Document 01, "The sheet and its calls", decides; the calls are `entry_calls` of calls' specs/Calls.antt. A call is
+// two bytes, select and byte; bytes past them keep their values. The colour's are in calls_colour. Not modelled: as in
 // calls.
 #![tactic(auto)]
 

@@ -1,7 +1,7 @@
 // A table's calls into a buffer, entry by entry, from what the reader kept of the table.
 //
-// Document 01, "The sheet and its calls", decides; the calls are `table_calls` of calls' specs/Calls.antt. Not modelled:
-// as in calls.
+// Document 01, "The sheet and its calls", decides; the calls are `table_calls` of calls' specs/Calls.antt. Not
+// modelled: as in calls.
 #![tactic(auto)]
 
 ghost use Rattle.std.specs.Prelude.{false, map, ◌≤◌, length};

@@ -1,7 +1,8 @@
 -- A sheet of chip A: document 01, "The sheet and its calls". Lines key=value in a fixed order, lower-case hex, LF
 -- after each. The grammar is `sheet_of`, from bytes to what the sheet says or the number of its first bad or missing
 -- line; the writer is `write`. Both share one definition of a line's text.
-use Rattle.std.specs.Prelude.{ℕ, zero, suc, ◌+◌, ◌-◌, ◌*◌, ◌/◌, ◌%◌, ◌≡◌, Bool, true, false, ◌&&◌, ◌||◌, List, [], ◌∷◌, ◌++◌, map, eqb, ltb, length, get_or, take, drop}
+use Rattle.std.specs.Prelude.{ℕ, zero, suc, ◌+◌, ◌-◌, ◌*◌, ◌/◌, ◌%◌, ◌≡◌, Bool, true, false, ◌&&◌, ◌||◌}
+use Rattle.std.specs.Prelude.{List, [], ◌∷◌, ◌++◌, map, eqb, ltb, length, get_or, take, drop}
 use Rattle.std.specs.Int.Bits.{bit_and}
 use Rattle.vocabulary.specs.Choice.{pick}
 use Rattle.vocabulary.specs.Refusal.{Row, ◌when◌, lent_length, out_of_range, over_fifteen, short_buffer, refusal_of}

@@ -29,7 +29,8 @@ module _ (p t : List ℕ) (i : ℕ) (left : starts (drop i p) (drop i t) ≡ sta
   starts_all g = rw (drop_of_length-le p g) at left
 
   module _ (g : i < length p) (h : length p ≤ length t) where
-    step : starts (drop i p) (drop i t) ≡ (eqb (get_or p i 0) (get_or t i 0) && starts (drop (i + 1) p) (drop (i + 1) t))
+    step : starts (drop i p) (drop i t)
+        ≡ (eqb (get_or p i 0) (get_or t i 0) && starts (drop (i + 1) p) (drop (i + 1) t))
     unfolding starts
     step = rw (drop-cons p i 0 g, drop-cons t i 0 (omega arith), add-one)
 

@@ -29,7 +29,8 @@ leads_good (x ∷ l) m = ap (led x) (leads_good l m)
 -- one key on, by its line
 module _ (k n : ℕ) (t : List ℕ) (more : ℕ) where
   pub has : (v : ℕ) → line_of (key_at k) t ≡ Has v
-      → read_from (suc more) k n t ≡ led (Has v) (read_from more (k + 1) (n + 1) (drop (length (line_text (key_at k) v)) t))
+      → read_from (suc more) k n t
+      ≡ led (Has v) (read_from more (k + 1) (n + 1) (drop (length (line_text (key_at k) v)) t))
   unfolding read_from
   has v e = rw e
 

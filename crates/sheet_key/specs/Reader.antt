@@ -1,5 +1,6 @@
 -- Reading a sheet line by line. What the sheet says is `sheet_of`; here is what one line's answer makes of it.
-use Rattle.std.specs.Prelude.{ℕ, ◌+◌, ◌-◌, ◌*◌, ◌≤◌, ◌<◌, ◌≡◌, List, [], ◌∷◌, ◌++◌, ltb, eqb, length, get_or, drop, replicate}
+use Rattle.std.specs.Prelude.{ℕ, ◌+◌, ◌-◌, ◌*◌, ◌≤◌, ◌<◌, ◌≡◌, List, [], ◌∷◌, ◌++◌, ltb, eqb, length, get_or}
+use Rattle.std.specs.Prelude.{drop, replicate}
 use Rattle.vocabulary.specs.Choice.{pick}
 use Rattle.hex_digits.specs.Hex.{hex_value}
 use Rattle.sheet.specs.declared.Line.{Line}

@@ -1,7 +1,7 @@
 // The lines of a sheet into a buffer: all 265, in the order of their keys.
 //
-// Document 01, "The sheet and its calls", decides; the text is `text_of` of sheet's specs/Sheet.antt. Bytes past it keep
-// their values. Not modelled: as in sheet_writer.
+// Document 01, "The sheet and its calls", decides; the text is `text_of` of sheet's specs/Sheet.antt. Bytes past it
+// keep their values. Not modelled: as in sheet_writer.
 #![tactic(auto)]
 
 ghost use Rattle.std.specs.Prelude.{◌≡◌, ◌+◌, ◌≤◌, length};

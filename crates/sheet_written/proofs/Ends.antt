@@ -62,7 +62,8 @@ module _ (a : Chip) (out : List ℕ) {n : ℕ} (e : n ≡ tried a) where
           refused_short h =
               let less : length out < length (text_of a) = omega (arith, long) in
               stops (write_refusals a out) 0 out _
-              (lent_length ∷ out_of_range ∷ no_access ∷ no_index ∷ read_mode ∷ still_waiting ∷ over_fifteen ∷ malformed ∷ [])
+              (lent_length ∷ out_of_range ∷ no_access ∷ no_index ∷ read_mode ∷ still_waiting ∷ over_fifteen
+              ∷ malformed ∷ [])
               short_buffer 6 _ refl refl
               (stands.0, (stands.1, (refl, (refl, (refl, (refl, (neither, (refl, tt))))))))
               (lt-ltb (length out) _ less)

@@ -55,7 +55,8 @@ bad_ended : (t : List ℕ) (n : ℕ) → bad_line (ended t n) ≤ n + 0
 bad_ended [] n = omega arith
 bad_ended (b ∷ t) n = omega arith
 
-module _ (more k n : ℕ) (t : List ℕ) (on : (n : ℕ) (t : List ℕ) → bad_line (read_from more (k + 1) n t) ≤ n + more) where
+module _ (more k n : ℕ) (t : List ℕ)
+    (on : (n : ℕ) (t : List ℕ) → bad_line (read_from more (k + 1) n t) ≤ n + more) where
   bad_step : (x : Line) → line_of (key_at k) t ≡ x → bad_line (read_from (suc more) k n t) ≤ n + suc more
   unfolding read_from
   bad_step (Has v) e = rw (e, bad_led) (omega (arith, on (n + 1) (drop (length (line_text (key_at k) v)) t)))

@@ -42,7 +42,8 @@ pub accepted_good : (text out : List ℕ) → (sheet_to_calls text out).refusal 
     → sheet_of text ≡ good (lines_of (sheet_of text))
 accepted_good text out f = good_by text out (sheet_of text) refl f
 
-module _ (text out : List ℕ) (l : List Line) (e : sheet_of text ≡ good l) (f : (sheet_to_calls text out).refusal ≡ 0) where
+module _ (text out : List ℕ) (l : List Line) (e : sheet_of text ≡ good l)
+    (f : (sheet_to_calls text out).refusal ≡ 0) where
   pub step_does : sheet_to_calls text out ≡ accepting 0 (length (calls_of l)) (pasted out 0 (call_bytes (calls_of l)))
   unfolding sheet_to_calls
   step_does = rw e (accepted_does 0 out _ (accepted_none _ 0 out _ (rw e at f)))
@@ -71,7 +72,8 @@ list_room text out l s h =
 -- ---- what loads every sheet does so from call to call
 
 module _ (w : Writing) (loads : LoadsSheets w) where
-  loads_text : (text out : List ℕ) (c : Chip) → (sheet_to_calls text out).refusal ≡ 0 → InRange c → LoadsText w text out c
+  loads_text : (text out : List ℕ) (c : Chip) → (sheet_to_calls text out).refusal ≡ 0 → InRange c
+      → LoadsText w text out c
   loads_text text out c f g =
       let l = lines_of (sheet_of text) in
       let e = accepted_good text out f in

@@ -85,7 +85,8 @@ module _ (w : Writing) (loads : LoadsSheets w) where
 
   pub must_store : (t : Table) → ((select b : ℕ) (c : Chip) → table_of t (w select b c).left ≡ table_of t c) → ⊥
   must_store t h =
-      let kept = ap (λ (l : List ℕ). get_or l 0 0) (loaded_table t ∙ made_keeps w (table_of t) h bright_calls (bytes 0)) in
+      let kept =
+      ap (λ (l : List ℕ). get_or l 0 0) (loaded_table t ∙ made_keeps w (table_of t) h bright_calls (bytes 0)) in
       omega (arith, first t 1, first t 0)
 
   pub must_set_registers :

@@ -36,7 +36,8 @@ module _ (lines : List Line) (l : GoodLines lines) (c : Chip) (g : InRange c) wh
       let fits : (t : Table) → 0 + length (entries_of t lines) ≤ size t = λ t. omega (arith, l.entries t) in
       next g (register_calls_lem l.registers c g)
       (λ g1. next g1
-      (table_calls_lem overlay 0 false (overlays_of lines) c1 g1 (l.colours overlay) (fits overlay) (λ e. clash (sym e)))
+      (table_calls_lem overlay 0 false (overlays_of lines) c1 g1 (l.colours overlay) (fits overlay)
+      (λ e. clash (sym e)))
       (λ g2.
       table_calls_lem colour 0 false (colours_of lines) c2 g2 (l.colours colour) (fits colour) (λ e. clash (sym e))))
 

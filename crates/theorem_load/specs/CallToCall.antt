@@ -42,11 +42,13 @@ pub record LoadsChip (w : Writing) (a b : Chip) (out list : List ℕ) : Type 0 w
   pub same : Same a (made w (calls_written (calls_for a out list)) b)
 
 pub record CallToCall (w : Writing) : Type 0 where
-  pub loads : (text out : List ℕ) (c : Chip) → (sheet_to_calls text out).refusal ≡ 0 → InRange c → LoadsText w text out c
+  pub loads : (text out : List ℕ) (c : Chip) → (sheet_to_calls text out).refusal ≡ 0 → InRange c
+      → LoadsText w text out c
   pub back : (a b : Chip) (out list : List ℕ) → (write a out).refusal ≡ 0 → (calls_for a out list).refusal ≡ 0
       → InRange b → LoadsChip w a b out list
   -- what the writer wrote is the chip's sheet
-  pub sheet : (a : Chip) (out : List ℕ) → (write a out).refusal ≡ 0 → IsSheet (bytes_written (write a out)) (chip_lines a)
+  pub sheet : (a : Chip) (out : List ℕ) → (write a out).refusal ≡ 0
+      → IsSheet (bytes_written (write a out)) (chip_lines a)
   -- and with room enough both calls are accepted, the writer of a chip with no table byte over 15
   pub written : (a : Chip) (out : List ℕ) → Writable a → 2134 ≤ length out → (write a out).refusal ≡ 0
   pub listed : (text out : List ℕ) (lines : List Line) → IsSheet text lines → 1572 ≤ length out

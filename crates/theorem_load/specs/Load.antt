@@ -10,8 +10,8 @@ use Rattle.hd153108.specs.declared.State.{State}
 use Rattle.hd153108.specs.Hd153108.{Chip, Table, colour, overlay, table_of, colour_at, InRange, writes, called}
 use Rattle.sheet.specs.declared.Line.{Line}
 use Rattle.sheet.specs.declared.Line.TheVariants.{Has, Missing}
-use Rattle.sheet.specs.Sheet.{sheet_of, good, lines_of, registers_of, overlays_of, colours_of, red_of, green_of, blue_of}
-use Rattle.sheet.specs.Sheet.{text_of}
+use Rattle.sheet.specs.Sheet.{sheet_of, good, lines_of, registers_of, overlays_of, colours_of, red_of, green_of}
+use Rattle.sheet.specs.Sheet.{blue_of, text_of}
 use Rattle.sheet_written.specs.Writer.{Writable}
 use Rattle.calls.specs.Calls.{Call, calls_of}
 
@@ -60,7 +60,8 @@ pub record Leaves (lines : List Line) (before after : Chip) : Type 0 where
   pub registers : register_lines after.state ≡ registers_of lines
   pub position : after.state.clock.position ≡ 0
   pub entries : (t : Table) (e : ℕ)
-      → colour_at e (table_of t after) ≡ filled (get_or (entries_of t lines) e Missing) (colour_at e (table_of t before))
+      → colour_at e (table_of t after)
+      ≡ filled (get_or (entries_of t lines) e Missing) (colour_at e (table_of t before))
   pub in_range : InRange after
 
 pub record Loads (w : Writing) (lines : List Line) (c : Chip) : Type 0 where

@@ -4,8 +4,8 @@ use mathlib.Core.Path.{◌≡◌, refl, sym, ap, ◌∙◌}
 use native.Mathlib.Omega.{arith}
 use Rattle.vocabulary.specs.Outcome.{Outcome}
 use Rattle.vocabulary.proofs.Outcome.{accepts_as}
-use Rattle.rgb640.specs.Rgb640.{Chip, InRange, Space, update_control, palette_read, palette_told, transfer_at, three_bytes}
-use Rattle.rgb640.specs.Rgb640.{register_at, told, looks, called}
+use Rattle.rgb640.specs.Rgb640.{Chip, InRange, Space, update_control, palette_read, palette_told, transfer_at}
+use Rattle.rgb640.specs.Rgb640.{three_bytes, register_at, told, looks, called}
 use Rattle.rgb640.proofs.Access.{read_index, read_data}
 use Rattle.rgb640.proofs.Index.{space_update, space_read}
 use Rattle.rgb640.proofs.Look.{look_state}

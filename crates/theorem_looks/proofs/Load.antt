@@ -14,7 +14,8 @@ use Rattle.theorem_load.proofs.Load.{load}
 use Rattle.theorem_looks.specs.Looks.{panel, amid, below, LoadsWithLooks}
 
 -- without the looks put in between, a list is itself
-amid_looks : (places : List ℕ) (ks : List Call) → besides is_look (amid (map looks places) (map panel ks)) ≡ map panel ks
+amid_looks : (places : List ℕ) (ks : List Call)
+    → besides is_look (amid (map looks places) (map panel ks)) ≡ map panel ks
 unfolding amid besides pick
 amid_looks places [] = besides_all is_look looks (λ n. refl) places
 amid_looks places (k ∷ ks) =

@@ -23,6 +23,6 @@ decreases-loop kept entry₀ count₀ joined₀ entry count joined = length kept
 pub table_count_spec : {M : Type 1} → statement M
 table_count_spec =
     tie.close
-    (tie.spec invariant-loop decreases-loop (λ c. search rules) (λ c. search rules) (λ c. search rules) (λ c. search rules)
-    (λ c. search rules) (λ c. search rules) (λ c. search rules) (λ c. search (counts_on, rules))
-    (λ c. search (counts_all, rules)))
+    (tie.spec invariant-loop decreases-loop (λ c. search rules) (λ c. search rules) (λ c. search rules)
+    (λ c. search rules) (λ c. search rules) (λ c. search rules) (λ c. search rules)
+    (λ c. search (counts_on, rules)) (λ c. search (counts_all, rules)))

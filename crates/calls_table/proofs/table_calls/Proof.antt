@@ -20,9 +20,9 @@ decreases-loop kept select out₀ entry₀ at₀ follows₀ out entry at follows
 pub table_calls_spec : {M : Type 1} → statement M
 table_calls_spec =
     tie.close
-    (tie.spec invariant-loop decreases-loop (λ c. (search rules, begins _ _ c.before.before.requires.1)) (λ c. search rules)
-    (λ c. search rules) (λ c. search rules) (λ c κs. search (entry_fits, rules)) (λ c. search rules)
-    (λ c. search rules)
+    (tie.spec invariant-loop decreases-loop (λ c. (search rules, begins _ _ c.before.before.requires.1))
+    (λ c. search rules) (λ c. search rules) (λ c. search rules) (λ c κs. search (entry_fits, rules))
+    (λ c. search rules) (λ c. search rules)
     (λ c.
     let l = c.before.before.before.before.before.before.loop-entry in
     (search rules, next_entry _ _ _ _ _ _ _ l.invariant.1 (search rules) c.before.before.put_entry-at.ensures))

@@ -34,6 +34,6 @@ returns c =
 pub spelt_spec : {M : Type 1} → statement M
 spelt_spec =
     tie.close
-    (tie.spec invariant-loop decreases-loop (λ c. search (number_none, rules)) mul-v (λ c. search rules) (λ c. search rules)
-    (λ c. search rules) (λ c. search rules) add-v (λ c. search rules) (λ c. search rules)
+    (tie.spec invariant-loop decreases-loop (λ c. search (number_none, rules)) mul-v (λ c. search rules)
+    (λ c. search rules) (λ c. search rules) (λ c. search rules) add-v (λ c. search rules) (λ c. search rules)
     (λ c. search (number_more, rules)) returns)

@@ -22,5 +22,6 @@ ruleset ends = (starts_short, starts_all, starts_on, starts_differ, rules)
 pub begins_spec : {M : Type 1} → statement M
 begins_spec =
     tie.close
-    (tie.spec invariant-loop decreases-loop (λ c. search ends) (λ c. search rules) (λ c. search rules) (λ c. search rules)
-    (λ c. search ends) (λ c. search rules) (λ c. search rules) (λ c. search ends) (λ c. search ends))
+    (tie.spec invariant-loop decreases-loop (λ c. search ends) (λ c. search rules) (λ c. search rules)
+    (λ c. search rules) (λ c. search ends) (λ c. search rules) (λ c. search rules) (λ c. search ends)
+    (λ c. search ends))

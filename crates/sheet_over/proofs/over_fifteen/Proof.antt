@@ -20,5 +20,5 @@ ruleset turns = (none_over, over_here, over_on, rules)
 pub over_fifteen_spec : {M : Type 1} → statement M
 over_fifteen_spec =
     tie.close
-    (tie.spec invariant-loop decreases-loop (λ c. search rules) (λ c. search rules) (λ c. search turns) (λ c. search rules)
-    (λ c. search rules) (λ c. search turns) (λ c. search turns))
+    (tie.spec invariant-loop decreases-loop (λ c. search rules) (λ c. search rules) (λ c. search turns)
+    (λ c. search rules) (λ c. search rules) (λ c. search turns) (λ c. search turns))
