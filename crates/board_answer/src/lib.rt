@@ -34,13 +34,7 @@ fn choose(board: Board, chip: Chip) -> Board
 }
 
 // A line's call made, and its whole answer.
-#[tactic(auto, using(
-    crate::proofs::Lines::line_calls,
-    crate::proofs::Lines::line_lists,
-    crate::proofs::Lines::line_expands,
-    crate::proofs::Lines::line_bad,
-    crate::proofs::Lines::line_chooses
-))]
+#[tactic(auto, using(crate::proofs::Lines::line_expands, crate::proofs::Lines::line_bad))]
 pub fn answer(
     board: Board,
     line: Line,

@@ -45,8 +45,8 @@ pub fn take(
     table: &mut [u16],
     page: &mut [u8],
 ) -> Fed
-    ensures taken_value { result.taken ≡ up_to text.now }
-    ensures fed_took { FedTook result hold.new colours.new overlays.new queue.new
+    ensures taken { result.taken ≡ up_to text.now }
+    ensures took_turn { FedTook result hold.new colours.new overlays.new queue.new
         map.new table.new page.new
         (fed (first_of (up_to text.now) text.now)
         (desk (whole board colours.old overlays.old queue.old

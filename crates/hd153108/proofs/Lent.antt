@@ -4,7 +4,7 @@ use Prim.Native.Nat.{ℕ, zero, suc}
 use mathlib.Core.Path.{◌≡◌, refl}
 use mathlib.Core.List.{List, []}
 use Rattle.vocabulary.specs.Refusal.{refusal_of}
-use Rattle.vocabulary.specs.Outcome.{Outcome, accepting, answered_at, answered}
+use Rattle.vocabulary.specs.Outcome.{accepting, answered_at, answered}
 use Rattle.vocabulary.specs.Face.{called_by}
 use Rattle.hd153108.specs.declared.Clock.{Clock}
 use Rattle.hd153108.specs.Hd153108.{Chip, with_clock, ticked, tick_refusals, tick, shown, colour_of, pixel_refusals}
