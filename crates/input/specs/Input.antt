@@ -58,8 +58,9 @@ abbrev pub last_end : ℕ → List ℕ
 last_end zero = []
 last_end (suc len) = 10 ∷ []
 
--- a turn brings what comes next and loses none of it; or the input was at its end, and at most an LF is left to take
+-- a turn brings something of what comes, and loses none of it; or the input was at its end, and at most an LF is left to take
 pub record GoesOn (i : Input) (old : Option (List ℕ)) (r : Input) (new : Option (List ℕ)) : Type 0 where
+  pub more : r.at < r.got
   pub comes : Keeps old new
   pub turns : r.turns ≡ i.turns - 1
 

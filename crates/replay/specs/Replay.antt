@@ -1,0 +1,33 @@
+-- What a replay prints: what its log answers, from the board on a desk.
+use Rattle.std.specs.Prelude.{ℕ, ◌^◌, ◌-◌, ◌<◌, ◌≡◌, List, ◌++◌, length, replicate}
+use Rattle.std.specs.declared.option.Option.{Option}
+use Rattle.std.specs.Io.KnownBytes.{Appends}
+use Rattle.hd153108.specs.Hd153108 as A
+use Rattle.rgb640.specs.Rgb640 as C
+use Rattle.board.specs.Board.{whole, started}
+use Rattle.hold.specs.Hold.{hold}
+use Rattle.feed.specs.Feed.{Desk, desk, fed}
+use Rattle.input.specs.Input.{last_end}
+use Rattle.replay.specs.declared.Stand.{Stand}
+
+-- the board with its tables and the page, and the bytes of a line that are held
+abbrev pub desk_of : Stand → List ℕ → List ℕ → List ℕ → List ℕ → List ℕ → List ℕ → List ℕ → Desk
+desk_of s held colours overlays queue map table page =
+    desk (whole s.board colours overlays queue map table page) (hold held s.len)
+
+-- what a log answers; a last line without its LF is answered as well
+abbrev pub answers : List ℕ → Desk → List ℕ
+answers log d = (fed (log ++ last_end (fed log d).left.hold.len) d).text
+
+-- a board after its first reset, with tables of zeros, and room for 16 bytes of a line
+abbrev pub at_first : A.Chip → C.Chip → Desk
+at_first a c =
+    desk (started a (replicate 64 0) (replicate 24576 0) c (replicate 2134 0)) (hold (replicate 16 0) 0)
+
+abbrev pub IsBlack : A.Chip → C.Chip → Type 0
+IsBlack a c = (a.colours ≡ replicate 768 0) × (a.overlays ≡ replicate 12 0) × (c.table ≡ replicate 3072 0)
+
+-- THE REPLAY: a log that has fewer bytes than there are turns is answered to its end
+abbrev pub Replays : Option (List ℕ) → Option (List ℕ) → List ℕ → Type 0
+Replays old new log =
+    (a : A.Chip) (c : C.Chip) → IsBlack a c → length log < 2 ^ 64 - 1 → Appends old new (answers log (at_first a c))
