@@ -9,8 +9,8 @@
 
 use answers::Text;
 use hd153108::State as AState;
-use port_log::Chip;
 use ms622424_places::State as BState;
+use port_log::Chip;
 use rgb640::State as CState;
 
 // The three chips' states, and the chip chosen last.

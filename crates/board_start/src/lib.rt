@@ -13,8 +13,8 @@ ghost use Rattle.board.specs.Board.{whole, revised, started};
 
 use board::Board;
 use hd153108::State as AState;
-use port_log::Chip;
 use ms622424_places::State as BState;
+use port_log::Chip;
 use rgb640::State as CState;
 
 // Chip A after its first reset, which reads nothing of the state before.

@@ -13,7 +13,7 @@ use Rattle.vocabulary.specs.Choice.{pick}
 use Rattle.vocabulary.proofs.Choice.{picks_first, picks_second, cases}
 use Rattle.port_log.specs.declared.Line.{Line}
 use Rattle.port_log.specs.Log.{line_of}
-use Rattle.hold.specs.Hold.{Hold, hold, held, holding, holding_all, before, ends, up_to, Within, held_of, Hears}
+use Rattle.hold.specs.Hold.{Hold, hold, held, holding, holding_all, before, up_to, Within, held_of, Hears}
 use Rattle.hold.proofs.Holds.{holding_more}
 
 module _ (t : List ℕ) (i : ℕ) where

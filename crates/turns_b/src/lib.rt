@@ -13,8 +13,8 @@ ghost use Rattle.turns.specs.Turns.{signalled, sighted, Told};
 ghost use Rattle.turns_b.specs.Turns.{b_turn, b_own, BTook};
 
 use answers::{News, Text};
-use port_log::{Call, CallB};
 use ms622424_places::{Answer, State};
+use port_log::{Call, CallB};
 
 // Chip B after a call, and the answer.
 #[derive(Clone, Copy)]
