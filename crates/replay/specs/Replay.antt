@@ -20,8 +20,8 @@ abbrev pub answers : List ℕ → Desk → List ℕ
 answers log d = (fed (log ++ last_end (fed log d).left.hold.len) d).text
 
 -- a board after its first reset, with tables of zeros, and room for 16 bytes of a line
-abbrev pub at_first : A.Chip → C.Chip → Desk
-at_first a c =
+abbrev pub first_desk : A.Chip → C.Chip → Desk
+first_desk a c =
     desk (started a (replicate 64 0) (replicate 24576 0) c (replicate 2134 0)) (hold (replicate 16 0) 0)
 
 abbrev pub IsBlack : A.Chip → C.Chip → Type 0
@@ -30,4 +30,4 @@ IsBlack a c = (a.colours ≡ replicate 768 0) × (a.overlays ≡ replicate 12 0)
 -- THE REPLAY: a log that has fewer bytes than there are turns is answered to its end
 abbrev pub Replays : Option (List ℕ) → Option (List ℕ) → List ℕ → Type 0
 Replays old new log =
-    (a : A.Chip) (c : C.Chip) → IsBlack a c → length log < 2 ^ 64 - 1 → Appends old new (answers log (at_first a c))
+    (a : A.Chip) (c : C.Chip) → IsBlack a c → length log < 2 ^ 64 - 1 → Appends old new (answers log (first_desk a c))
