@@ -25,11 +25,11 @@ kit_check() {
         say "needs the Rattle kit, $kit_made_with: put its bin folder, which has 'rt', on the PATH"
         return 1
     fi
-    if ! kit_is=$(rt version 2>&1); then
+    if ! kit_is=$(rt version 2>&1 </dev/null); then
         say "needs the Rattle kit, and 'rt version' says: $kit_is"
         return 1
     fi
-    kit=$(dirname "$(rt doc)")
+    kit=$(dirname "$(rt doc </dev/null)")
     kit_run=("$kit/toolchain/lib/ld-linux-x86-64.so.2" --library-path "$kit/toolchain/lib")
     if [ ! -x "${kit_run[0]}" ]; then
         say "the Rattle kit is not whole: it has no ${kit_run[0]}, which runs its programs"
