@@ -1,7 +1,7 @@
 // The number that hex digits spell, from a place of a text on: of 32, 16 or 8 bits.
 //
 // The replay's description and document 01, "The sheet and its calls", decide what a digit is; the definition is
-// `number` of hex's specs/Hex.antt. A byte that is no digit counts as 0, and so does a place past the end. Not
+// `number` of hex_digits's specs/Hex.antt. A byte that is no digit counts as 0, and so does a place past the end. Not
 // modelled: numbers of more than eight digits.
 #![tactic(auto)]
 

@@ -9,18 +9,17 @@ ghost use Rattle.std.specs.Io.KnownBytes.{Appends, Keeps};
 ghost use Rattle.printer.specs.Held.{held};
 
 use std::io;
-use std::io::{Error, ErrorKind, Write};
+use std::io::Write;
 
-// Prints what waits. No more can wait than the buffer holds.
+// Prints what waits: all of the buffer, where no less does.
 pub fn flush<W: Write>(to: &mut W, out: &[u8], waiting: usize) -> io::Result<()>
-    ensures inside { OnOk result (waiting ≤ length out.now) }
     ensures printed { OnOk result
         (Appends (W.contents to.old) (W.contents to.new) (take waiting out.now)) }
 {
     if waiting <= out.len() {
         return to.write_all(&out[..waiting]);
     }
-    Err(Error::from(ErrorKind::InvalidInput))
+    to.write_all(out)
 }
 
 // Room for 16 bytes, made by printing what waits where there is none: how many wait then.
