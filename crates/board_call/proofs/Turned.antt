@@ -38,3 +38,5 @@ module _ (s : Board) (call : Call) {k : L.Chip} {r : Step} (page : List ℕ) whe
       → StepTook r cs os queue map table' page (chip_turn k call (whole s cs os queue map table page))
   turned_c table table' cs os queue map m e t =
       let w = whole s cs os queue map table page in rw e (call_at w m call (took_turned page (with_c w) t))
+
+pub ruleset turned = (turned_a, turned_b, turned_c)

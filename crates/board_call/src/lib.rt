@@ -58,7 +58,7 @@ fn with_c(board: Board, t: CTurn) -> Step
 }
 
 // A call on the chip chosen last.
-#[tactic(auto, using(crate::proofs::Turned::turned_a, crate::proofs::Turned::turned_b, crate::proofs::Turned::turned_c))]
+#[tactic(auto, using(crate::proofs::Turned::turned))]
 pub fn call(
     board: Board,
     call: Call,

@@ -42,6 +42,7 @@ unfolding answered_at
 good_line zero out done e = e
 good_line (suc n) out done e = refl
 
-pub good_tells_no_line : (text out : List ℕ) (l : List Line) → sheet_of text ≡ good l → (sheet_to_calls text out).line ≡ 0
+pub good_tells_no_line : (text out : List ℕ) (l : List Line) → sheet_of text ≡ good l
+    → (sheet_to_calls text out).line ≡ 0
 unfolding sheet_to_calls
 good_tells_no_line text out l e = rw e (good_line (refusal_of (call_refusals (good l) out)) out _ refl)

@@ -8,8 +8,8 @@ use Rattle.vocabulary.specs.Component.{colour_word}
 use Rattle.expand.specs.declared.Expanded.{Expanded}
 use Rattle.expand.specs.Expand.{meaning, expansion}
 use Rattle.answers.specs.declared.Text.{Text}
-use Rattle.answers.specs.Answers.{ok_text, bad_text, value_text, look_text, moved_text, sync_text, colour_text, ten_text}
-use Rattle.answers.specs.Answers.{told, Says}
+use Rattle.answers.specs.Answers.{ok_text, bad_text, value_text, look_text, moved_text, sync_text, colour_text}
+use Rattle.answers.specs.Answers.{ten_text, told, Says}
 use Rattle.turns.specs.Turns.{bad, done, valued, sighted, moved, signalled, poured, Took, expand_text}
 
 -- a colour's bytes come back out of the one number
@@ -46,7 +46,8 @@ module _ {C : Type 0} {text : Text} {left : C} {o p : Outcome C} (e : o ≡ p) (
   pub took_poured : (r g b : ℕ) → o.value ≡ colour_word r g b → r < 256 → g < 256
       → Says text (told o.refusal (colour_text r g b)) → Took (Says text) left (poured p)
   took_poured r g b v hr hg s =
-      rw (sym e, v, red_of_lem r g b hr hg, green_of_lem r g b hr hg, blue_of_lem r g b hr hg) (record { says = s; leaves = l })
+      rw (sym e, v, red_of_lem r g b hr hg, green_of_lem r g b hr hg, blue_of_lem r g b hr hg)
+      (record { says = s; leaves = l })
 
 -- the expander's answer
 abbrev Tells : Text → Outcome Unit → Type 0

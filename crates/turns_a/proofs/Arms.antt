@@ -6,7 +6,8 @@ use Rattle.vocabulary.specs.Outcome.{Outcome}
 use Rattle.hd153108.specs.declared.Clock.{Clock}
 use Rattle.hd153108.specs.declared.State.{State}
 use Rattle.hd153108.specs.declared.Answer.{Answer}
-use Rattle.hd153108.specs.Hd153108.{Chip, chip, outcome, with_clock, clock_outcome, tick, called, resets, ticks, put_back}
+use Rattle.hd153108.specs.Hd153108.{Chip, chip, outcome, with_clock, clock_outcome, tick, put_back}
+use Rattle.hd153108.specs.Hd153108.{called, resets, ticks}
 use Rattle.hd153108.proofs.Lent.{tick_lent}
 use Rattle.port_log.specs.declared.Call.{Call}
 use Rattle.port_log.specs.declared.CallA.{CallA}
@@ -48,5 +49,18 @@ module _ (cs os : List ℕ) where
       → ATook t cs os (a_own call (chip s cs os))
   at_tick s m h = rw m (h cs os)
 
--- which call was matched, and how its outcome is told; the reset and the tick are lent no table, and promise it for any
-pub ruleset arms = (at_call, at_own, at_tick, same_chip, reset_done, tick_done, took_bad, took_done, took_valued, took_sighted, took_poured)
+-- which call was matched, and how its outcome is told; the reset and the tick are lent no table, and promise their
+-- turn for any
+pub ruleset arms = (
+  at_call,
+  at_own,
+  at_tick,
+  same_chip,
+  reset_done,
+  tick_done,
+  took_bad,
+  took_done,
+  took_valued,
+  took_sighted,
+  took_poured,
+)

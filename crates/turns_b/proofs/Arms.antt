@@ -44,5 +44,18 @@ module _ (queue map : List ℕ) where
       → BTook t queue map (b_own call (view (handed s queue map)))
   at_sync s t k m h = rw m (h map)
 
--- which call was matched, and how its outcome is told; the reset and the signals are lent no map, and promise it for any
-pub ruleset arms = (at_call, at_own, at_sync, same_chip, reset_done, sync_done, took_bad, took_valued, took_sighted, took_moved, took_poured)
+-- which call was matched, and how its outcome is told; the reset and the signals are lent no map, and promise their
+-- turn for any
+pub ruleset arms = (
+  at_call,
+  at_own,
+  at_sync,
+  same_chip,
+  reset_done,
+  sync_done,
+  took_bad,
+  took_valued,
+  took_sighted,
+  took_moved,
+  took_poured,
+)

@@ -22,6 +22,6 @@ ruleset ends = (fits_length, fits_all, fits_on, fits_not, not-true, not-false, r
 pub fits_spec : {M : Type 1} → statement M
 fits_spec =
     tie.close
-    (tie.spec invariant-loop decreases-loop (λ c. search ends) (λ c. search rules) (λ c. search rules) (λ c. search rules)
-    (λ c. search rules) (λ c. search ends) (λ c. search rules) (λ c. search rules) (λ c. search ends)
+    (tie.spec invariant-loop decreases-loop (λ c. search ends) (λ c. search rules) (λ c. search rules)
+    (λ c. search rules) (λ c. search rules) (λ c. search ends) (λ c. search rules) (λ c. search rules) (λ c. search ends)
     (λ c. search ends))
