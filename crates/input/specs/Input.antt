@@ -58,17 +58,18 @@ abbrev pub last_end : ℕ → List ℕ
 last_end zero = []
 last_end (suc len) = 10 ∷ []
 
--- a turn brings something of what comes, and loses none of it; or the input was at its end, and at most an LF is left to take
+-- a turn brings something of what comes, and loses none of it; or the input was at its end, and at most an LF is left
 pub record GoesOn (i : Input) (old : Option (List ℕ)) (r : Input) (new : Option (List ℕ)) : Type 0 where
   pub more : r.at < r.got
   pub comes : Keeps old new
   pub turns : r.turns ≡ i.turns - 1
 
-pub record Ends (len : ℕ) (old : Option (List ℕ)) (r : Input) (remaining : Option (List ℕ)) (chunk : List ℕ) : Type 0 where
-  pub before : IsAtEnd old
-  pub after : IsAtEnd remaining
-  pub line : unread chunk r ≡ last_end len
-  pub turns : r.turns ≡ 0
+pub record Ends (len : ℕ) (old : Option (List ℕ)) (r : Input) (remaining : Option (List ℕ)) (chunk : List ℕ) : Type 0
+  where
+    pub before : IsAtEnd old
+    pub after : IsAtEnd remaining
+    pub line : unread chunk r ≡ last_end len
+    pub turns : r.turns ≡ 0
 
 abbrev pub Brings : ℕ → Input → Option (List ℕ) → List ℕ → Input → Option (List ℕ) → List ℕ → Type 0
 Brings len i before chunk r after chunk' =

@@ -21,7 +21,8 @@ call_lines (suc n) calls = call_lines n calls ++ line_of (get_or calls (2 * n) 0
 -- `refused=` and `line=`
 abbrev pub refusal_lines : ℕ → ℕ → List ℕ
 refusal_lines refusal line =
-    (114 ∷ 101 ∷ 102 ∷ 117 ∷ 115 ∷ 101 ∷ 100 ∷ 61 ∷ decimal refusal) ++ (10 ∷ 108 ∷ 105 ∷ 110 ∷ 101 ∷ 61 ∷ decimal line) ++ 10 ∷ []
+    (114 ∷ 101 ∷ 102 ∷ 117 ∷ 115 ∷ 101 ∷ 100 ∷ 61 ∷ decimal refusal) ++
+    (10 ∷ 108 ∷ 105 ∷ 110 ∷ 101 ∷ 61 ∷ decimal line) ++ 10 ∷ []
 
 abbrev pub listing : Answer → List ℕ → List ℕ
 listing (Done count) calls = call_lines count calls

@@ -3,7 +3,8 @@
 // Document 01, "The sheet and its calls", decides. The first 4,096 bytes of the input decide: a good sheet has at most
 // 2,134 (proofs/Size.antt of crate sheet_written). Short reads are joined. It prints one call a line, `w`, select, `=`,
 // byte in hex; or the two lines `refused=8` and `line=`, with the number of the first bad or missing line. The list is
-// made by crate sheet_calls; its buffer holds the longest there is, 786 calls.
+// made by crate sheet_calls; its buffer holds the longest there is, 786 calls. What is printed is said by
+// specs/Listing.antt (`Prints`), for a reader that says which bytes it has left and a writer that says which it holds.
 #![tactic(auto)]
 
 ghost use Rattle.std.specs.Prelude.{◌≡◌, [], ◌∷◌, ◌/◌, ◌%◌, take, IfSome, OnOk};

@@ -1,13 +1,14 @@
 // Reads a port log on standard input, puts it to one board, and prints what it answers.
 //
 // The replay's description decides; what a byte of the log does and answers is said by crate feed, and when more of it
-// is read by crate input. It needs the same memory whatever comes in. The input is read to its end, unless the output
-// can't be written, in at most as many turns as a u64 counts: a turn takes what was read up to a line's end, and reads
-// on where all of it was taken. What is printed is said by specs/Replay.antt (`Replays`), for a reader that says which
-// bytes it has left and a writer that says which it holds.
+// is read by crate input. It needs the same memory whatever comes in. The input is read to its end, unless a read or a
+// write fails, which ends the program with that error, in at most as many turns as a u64 counts: a turn takes what was
+// read up to a line's end, and reads on where all of it was taken. What is printed is said by specs/Replay.antt
+// (`Replays`), for a reader that says which bytes it has left and a writer that says which it holds.
 #![tactic(auto)]
 
-ghost use Rattle.std.specs.Prelude.{◌≡◌, ℕ, ◌+◌, ◌^◌, ◌<◌, ◌≤◌, List, Some, length, take as first_of, IfOk, IfSome, OnOk};
+ghost use Rattle.std.specs.Prelude.{◌≡◌, ℕ, ◌+◌, ◌^◌, ◌<◌, ◌≤◌, List, Some};
+ghost use Rattle.std.specs.Prelude.{length, take as first_of, IfOk, IfSome, OnOk};
 ghost use Rattle.std.specs.Io.KnownBytes.{Appends};
 ghost use Rattle.board.specs.Board.{Answers};
 ghost use Rattle.hold.specs.Hold.{up_to};

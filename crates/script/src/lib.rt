@@ -1,9 +1,11 @@
-// The lines of a program's list of calls, which it reads on standard input, and what it prints of them: what the three
-// programs of vectors share.
+// The lines of a program's list of calls, and what it prints of them: what the three programs of vectors share. By it
+// loadlist reads its input and prints numbers, too.
 //
 // A line's first byte says what is done. Its numbers stand at fixed places, in lower-case hex digits, and behind them a
 // label. What a line holds and where is said by the program that reads it. Of a line that is too short the missing
-// digits are 0: a list is compared by what the program prints. Not modelled: what is printed, which no contract says.
+// digits are 0: a list is compared by what the program prints. What is printed is said for a writer that says which
+// bytes it holds, a number's hex digits in specs/Text.antt; after an error a part may have been printed. Not modelled:
+// what `fields` prints, which no contract says.
 #![tactic(auto)]
 
 ghost use Rattle.std.specs.Prelude.{◌≤◌, ◌<◌, [], ◌∷◌, ◌++◌, length, take, drop, IfOk, OnOk};

@@ -7,5 +7,6 @@ loop-i-init g c = none_printed (g.W.Write.contents c.args.out.now) c.args.calls.
 
 pub loop-i-preserved : goal.loop-i-preserved
 loop-i-preserved g c =
-    more_printed _ _ _ c.args.calls.now c.call_line-line.result c.loop-i.i c.byte.result c.byte-in-loop-i.result c.byte.ensures c.byte-in-loop-i.ensures
+    more_printed _ _ _ c.args.calls.now c.call_line-line.result c.loop-i.i c.byte.result c.byte-in-loop-i.result
+    c.byte.ensures c.byte-in-loop-i.ensures
     c.call_line-line.ensures c.loop-i.invariant c.in_ok-write_all.ensures.bytes

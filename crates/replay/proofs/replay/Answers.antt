@@ -22,8 +22,10 @@ loop-s-preserved g c =
       inside = λ h. omega (arith, next.inside (inv.inside h), ap (λ (i : Input). i.got) turn.input);
       stage = λ log h comes few.
           let fits = next.inside (inv.inside h) in
-          turn_taken log _ _ c.loop-s.s.len c.loop-s.s.input c.in_ok-i.i c.in_ok-s.s.input c.rest.result.now c.loop-s.chunk c.next.new.chunk _ _ _ _ _ _ _ _
-          c.loop-s-test.true refl fits (c.rest.ensures.part fits) turn.input (next.brings (omega (arith, inv.long))) next.kept turn.says turn.leaves (inv.stage log h comes few);
+          turn_taken log _ _ c.loop-s.s.len c.loop-s.s.input c.in_ok-i.i c.in_ok-s.s.input c.rest.result.now
+          c.loop-s.chunk c.next.new.chunk _ _ _ _ _ _ _ _
+          c.loop-s-test.true refl fits (c.rest.ensures.part fits) turn.input (next.brings (omega (arith, inv.long)))
+          next.kept turn.says turn.leaves (inv.stage log h comes few);
     }
 
 pub returns : goal.returns
