@@ -50,8 +50,8 @@ room_check() {
     fi
     local free
     free=$(df -Pk crates | awk 'NR == 2 { print int($4 / 1024) }')
-    if [ "${free:-9000}" -lt 3000 ]; then
-        say "building needs some 3 GB in the folder 'crates' of the project; $free MB are free"
+    if [ "${free:-9000}" -lt 2000 ]; then
+        say "building needs some 2 GB in the folder 'crates' of the project; $free MB are free"
         return 1
     fi
     [ "$kit_is" = "$kit_made_with" ] || say "made with $kit_made_with; this kit is $kit_is: going on with it"
@@ -145,7 +145,7 @@ names() { reached "$@" | sed 's/[ :].*//'; }
 takes() {
     local n minutes many=s
     n=$(grep -c . <<<"$2")
-    minutes=$(((n * 10 + 59) / 60))
+    minutes=$(((n * 15 + 59) / 60))
     [ $minutes -gt 1 ] || many=''
     say "proving and building $1, from $n crates, this once: up to $minutes minute$many on two cores"
 }
