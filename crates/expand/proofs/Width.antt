@@ -9,7 +9,7 @@ use Rattle.vocabulary.specs.Line.{line}
 use Rattle.vocabulary.specs.Refusal.{out_of_range, lent_length}
 use Rattle.vocabulary.specs.Outcome.{accepting}
 use Rattle.vocabulary.proofs.Range.{holds_passes, not_fails}
-use Rattle.vocabulary.proofs.Refusal.{refusal_is, refusal_none}
+use Rattle.vocabulary.proofs.Refusals.{refusal_is, refusal_none}
 use Rattle.vocabulary.proofs.Outcome.{refused_as, accepted_does}
 use Rattle.expand.specs.declared.Expanded.TheVariants.{Ten, Refused}
 use Rattle.expand.specs.Expand.{repeated, filled, ten, refusals, expansion, meaning}

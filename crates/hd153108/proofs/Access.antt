@@ -12,7 +12,7 @@ use Rattle.vocabulary.specs.Outcome.{Outcome, accepting, refusing, answered}
 use Rattle.vocabulary.specs.Component.{component_at, red, green, blue}
 use Rattle.vocabulary.specs.Face.{called_by}
 use Rattle.vocabulary.proofs.Range.{passes_holds, holds_passes, fails_right}
-use Rattle.vocabulary.proofs.Refusal.{standing_clear}
+use Rattle.vocabulary.proofs.Refusals.{standing_clear}
 use Rattle.vocabulary.proofs.Call.{tried_first, stops, goes_on}
 use Rattle.hd153108.specs.declared.State.{State}
 use Rattle.hd153108.specs.declared.Answer.{Answer}

@@ -7,7 +7,7 @@ use mathlib.Core.List.{[], ◌∷◌}
 use Rattle.vocabulary.specs.Refusal.{lent_length, out_of_range}
 use Rattle.vocabulary.specs.Outcome.{accepting, refusing}
 use Rattle.vocabulary.proofs.Range.{holds_passes, not_fails}
-use Rattle.vocabulary.proofs.Refusal.{refusal_is, refusal_none}
+use Rattle.vocabulary.proofs.Refusals.{refusal_is, refusal_none}
 use Rattle.vocabulary.proofs.Outcome.{refused_as, accepted_does}
 use Rattle.hd153108.specs.Hd153108.{clock, on_time, off_time, period, is_off, tick_refusals, tick}
 

@@ -5,33 +5,19 @@
 #![tactic(auto)]
 
 ghost use Rattle.std.specs.Prelude.{◌≡◌};
-ghost use Rattle.vocabulary.specs.Look.{seen as seen_at, unseen};
+ghost use Rattle.vocabulary.specs.Look.{telling_look};
 
-use vocabulary::Looked;
+use vocabulary::{Looked, Refusal};
 
-// The number that stands at a place.
-pub fn seen(value: u16) -> Looked
-    ensures { result ≡ seen_at value }
+// The answer that a look's result makes: the number at the place, or why there is none.
+pub fn told(found: Result<u16, Refusal>) -> Looked
+    ensures { result ≡ telling_look found }
 {
-    Looked {
-        refusal: 0,
-        value: value,
-    }
-}
-
-// The same of a byte.
-pub fn seen_byte(value: u8) -> Looked
-    ensures { result ≡ seen_at value }
-{
-    seen(value as u16)
-}
-
-// A refused look: no number.
-pub fn refused(refusal: u8) -> Looked
-    ensures { result ≡ unseen refusal }
-{
-    Looked {
-        refusal: refusal,
-        value: 0,
+    match found {
+        Ok(value) => Looked { refusal: 0, value },
+        Err(r) => Looked {
+            refusal: u8::from(r),
+            value: 0,
+        },
     }
 }

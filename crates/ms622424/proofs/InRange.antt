@@ -8,7 +8,7 @@ use Rattle.vocabulary.specs.Refusal.{refusal_of, standing, due, lent_length, out
 use Rattle.vocabulary.specs.Outcome.{refusing}
 use Rattle.vocabulary.specs.Face.{called_by}
 use Rattle.vocabulary.proofs.Range.{holds_passes, passes_holds, fails_right, clash}
-use Rattle.vocabulary.proofs.Refusal.{standing_clear}
+use Rattle.vocabulary.proofs.Refusals.{standing_clear}
 use Rattle.vocabulary.proofs.Call.{tried_first}
 use Rattle.ms622424.specs.Ms622424.{Chip, lengths, short, ranges, outside, InRange, Call, writes, reads, blanks}
 use Rattle.ms622424.specs.Ms622424.{pixels, signals, resets, looks, refusals, does, called}

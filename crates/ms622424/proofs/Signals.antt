@@ -9,7 +9,7 @@ use Rattle.vocabulary.specs.Refusal.{refusal_of, standing, lent_length, out_of_r
 use Rattle.vocabulary.specs.Outcome.{accepting, refusing}
 use Rattle.vocabulary.specs.Face.{called_by}
 use Rattle.vocabulary.proofs.Range.{holds_passes, passes_holds, not_fails, fails_right}
-use Rattle.vocabulary.proofs.Refusal.{standing_clear}
+use Rattle.vocabulary.proofs.Refusals.{standing_clear}
 use Rattle.vocabulary.proofs.Call.{tried_first, stops, goes_on}
 use Rattle.ms622424.specs.Ms622424.{Chip, short_queue, ranges, outside, pipe_out, signal_refusals, signals, called}
 

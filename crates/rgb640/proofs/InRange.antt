@@ -10,7 +10,7 @@ use Rattle.vocabulary.specs.Run.{Keeps}
 use Rattle.vocabulary.proofs.Choice.{picks_first, picks_second, cases}
 use Rattle.vocabulary.proofs.Component.{put_length}
 use Rattle.vocabulary.proofs.Range.{passes_holds}
-use Rattle.vocabulary.proofs.Refusal.{standing_clear}
+use Rattle.vocabulary.proofs.Refusals.{standing_clear}
 use Rattle.vocabulary.proofs.Face.{called_holds}
 use Rattle.expand.proofs.Width.{ten_below}
 use Rattle.rgb640.specs.declared.State.{State}

@@ -8,7 +8,7 @@ use lib.ListN.{length}
 use borrow.Author.Tests.{lt-ltb, le-ltb}
 use Rattle.vocabulary.specs.Refusal.{lent_length, out_of_range, no_access, no_index, read_mode, still_waiting}
 use Rattle.vocabulary.specs.Refusal.{over_fifteen, malformed, short_buffer, refusal_of, standing}
-use Rattle.vocabulary.proofs.Refusal.{standing_clear}
+use Rattle.vocabulary.proofs.Refusals.{standing_clear}
 use Rattle.vocabulary.proofs.Call.{tried_first, stops, goes_on}
 use Rattle.hd153108.specs.Hd153108.{Chip, short, outside}
 use Rattle.sheet.specs.declared.Answer.TheVariants.{Done, Refused}

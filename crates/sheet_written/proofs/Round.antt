@@ -12,7 +12,7 @@ use Rattle.vocabulary.specs.Refusal.{refusal_of}
 use Rattle.vocabulary.specs.Outcome.{accepting}
 use Rattle.vocabulary.proofs.Range.{neither}
 use Rattle.vocabulary.proofs.Outcome.{accepted_does, accepted_none}
-use Rattle.vocabulary.proofs.Refusal.{none_exactly}
+use Rattle.vocabulary.proofs.Refusals.{none_exactly}
 use Rattle.hd153108.specs.Hd153108.{Chip, InRange}
 use Rattle.hd153108.proofs.InRange.{in_range_lem}
 use Rattle.sheet.specs.declared.Line.TheVariants.{Has}

@@ -7,7 +7,7 @@ use borrow.Author.Tests.{le-ltb}
 use lib.ListN.{length}
 use Rattle.vocabulary.specs.Outcome.{accepting}
 use Rattle.vocabulary.proofs.Outcome.{accepted_does}
-use Rattle.vocabulary.proofs.Refusal.{refusal_none}
+use Rattle.vocabulary.proofs.Refusals.{refusal_none}
 use Rattle.hd153108.specs.Hd153108.{Chip}
 use Rattle.hd153108.proofs.InRange.{not_short, not_outside}
 use Rattle.sheet.specs.declared.Line.{Line}

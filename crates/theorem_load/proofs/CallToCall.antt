@@ -9,7 +9,7 @@ use Rattle.vocabulary.specs.Refusal.{due, malformed}
 use Rattle.vocabulary.specs.Outcome.{Outcome, accepting}
 use Rattle.vocabulary.proofs.Range.{clash}
 use Rattle.vocabulary.proofs.Outcome.{accepted_does, accepted_none}
-use Rattle.vocabulary.proofs.Refusal.{none_exactly}
+use Rattle.vocabulary.proofs.Refusals.{none_exactly}
 use Rattle.hd153108.specs.Hd153108.{Chip, InRange}
 use Rattle.sheet.specs.declared.Line.{Line}
 use Rattle.sheet.specs.Sheet.{Reading, good, bad, sheet_of, lines_of, chip_lines, text_of, pasted, write}

@@ -16,7 +16,7 @@ use Rattle.vocabulary.specs.Refusal.{refusal_of}
 use Rattle.vocabulary.specs.Run.{Accepted}
 use Rattle.vocabulary.proofs.Outcome.{accepted_does}
 use Rattle.vocabulary.proofs.Range.{passes_holds}
-use Rattle.vocabulary.proofs.Refusal.{none_exactly}
+use Rattle.vocabulary.proofs.Refusals.{none_exactly}
 use Rattle.ms622424.specs.declared.Port.{Port}
 use Rattle.ms622424.specs.Ms622424.{Chip, Entry, completed, complete, stored, all_stored, register_at, selected}
 use Rattle.ms622424.specs.Ms622424.{Moves, moves, room_made, taken, written, answers}

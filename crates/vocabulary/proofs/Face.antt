@@ -7,7 +7,7 @@ use Rattle.vocabulary.specs.Outcome.{Outcome, refusing}
 use Rattle.vocabulary.specs.Judged.{None}
 use Rattle.vocabulary.specs.Face.{called_by}
 use Rattle.vocabulary.proofs.Call.{stops}
-use Rattle.vocabulary.proofs.Refusal.{none_exactly}
+use Rattle.vocabulary.proofs.Refusals.{none_exactly}
 use Rattle.vocabulary.proofs.Outcome.{accepted_does, accepted_none, refused_left, left_holds}
 
 module _ {C K : Type 0} (refusals : K → C → List Row) (does : K → C → Outcome C) (k : K) (c : C) where

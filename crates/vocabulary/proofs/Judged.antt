@@ -6,7 +6,7 @@ use mathlib.Core.List.{List, [], ◌∷◌}
 use native.Mathlib.Omega.{arith}
 use Rattle.vocabulary.specs.Refusal.{Refusal, Row, due, order, first_due, refusal_of}
 use Rattle.vocabulary.specs.Outcome.{Outcome, refusing, answered_at}
-use Rattle.vocabulary.proofs.Refusal.{number_positive, refusal_is, refusal_exactly, none_exactly}
+use Rattle.vocabulary.proofs.Refusals.{number_positive, refusal_is, refusal_exactly, none_exactly}
 use Rattle.vocabulary.proofs.Outcome.{refusal_keeps, accepted_does, accepted_none}
 use Rattle.vocabulary.specs.Judged.{None, First, Judged}
 use Rattle.vocabulary.specs.Face.{called_by}

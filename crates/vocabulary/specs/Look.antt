@@ -1,9 +1,9 @@
 -- Looks: the number that stands at a place of a chip. A look moves nothing (request P5). A chip's places are one table
 -- of its definitions, `look_places`; what follows is of any chip.
-use Rattle.std.specs.Prelude.{ℕ, ◌-◌, Bool, true, false, List, [], ◌∷◌, length, get_or}
+use Rattle.std.specs.Prelude.{ℕ, ◌-◌, Bool, true, false, List, [], ◌∷◌, length, get_or, Result, Ok, Err}
 use Rattle.vocabulary.specs.Choice.{pick}
 use Rattle.vocabulary.specs.Range.{within, meets}
-use Rattle.vocabulary.specs.Refusal.{Row, ◌when◌, lent_length, out_of_range, no_access}
+use Rattle.vocabulary.specs.Refusal.{Refusal, number, Row, ◌when◌, lent_length, out_of_range, no_access}
 use Rattle.vocabulary.specs.Outcome.{Outcome, accepting}
 use Rattle.vocabulary.specs.declared.Looked.{Looked}
 
@@ -58,3 +58,8 @@ seen n = record { refusal = 0; value = n }
 
 abbrev pub unseen : ℕ → Looked
 unseen n = record { refusal = n; value = 0 }
+
+-- the answer that a look's result makes
+abbrev pub telling_look : Result ℕ Refusal → Looked
+telling_look (Ok n) = seen n
+telling_look (Err r) = unseen (number r)

@@ -5,7 +5,7 @@ use mathlib.Core.List.{[], ◌∷◌}
 use native.Mathlib.Omega.{arith}
 use Rattle.vocabulary.specs.Refusal.{standing, lent_length, out_of_range}
 use Rattle.vocabulary.proofs.Range.{not_fails, holds_passes, misses_fails, meets_passes}
-use Rattle.vocabulary.proofs.Refusal.{refusal_is, refusal_none}
+use Rattle.vocabulary.proofs.Refusals.{refusal_is, refusal_none}
 use Rattle.rgb640.specs.Rgb640.{whole, state_ranges}
 use Rattle.rgb640_range.proofs.standing_of.Statement.{statement}
 use Rattle.rgb640_range.proofs.standing_of.Tie as tie

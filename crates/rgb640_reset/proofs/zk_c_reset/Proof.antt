@@ -1,7 +1,7 @@
 use mathlib.Core.Path.{sym, ap, ◌∙◌}
 use mathlib.Core.List.{[]}
 use Rattle.vocabulary.specs.Face.{called_by}
-use Rattle.vocabulary.proofs.Refusal.{refusal_none}
+use Rattle.vocabulary.proofs.Refusals.{refusal_none}
 use Rattle.vocabulary.proofs.Outcome.{accepted_does}
 use Rattle.rgb640.specs.declared.Answer.{Answer}
 use Rattle.rgb640.specs.Rgb640.{outcome}
