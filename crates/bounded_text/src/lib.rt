@@ -1,0 +1,61 @@
+// A text of at most N bytes, which lie in the value itself.
+//
+// No heap is a rule of the project; a line of a sheet and an answer of a replay are such texts. In a contract a text is
+// the list of its bytes. Not modelled: what the bytes behind a text's own hold.
+#![tactic(auto)]
+
+ghost use Rattle.std.specs.Prelude.{◌≡◌, List, ℕ, [], ◌∷◌, ◌++◌, ◌<◌, ◌≤◌, length, take};
+
+use std::marker::Model;
+
+#[derive(Drop)]
+pub struct Text<const N: usize> {
+    bytes: [u8; N],
+    len: usize,
+}
+
+impl<const N: usize> Model for Text<N> {
+    ghost Value = { List ℕ };
+
+    ghost view = { λ t. take t.len t.bytes };
+
+    ghost invariant = { λ t. t.len ≤ N };
+}
+
+impl<const N: usize> Text<N> {
+    // No byte.
+    pub fn new() -> Self
+        ensures { result ≡ [] }
+    {
+        Text {
+            bytes: [0; N],
+            len: 0,
+        }
+    }
+
+    // The first bytes of an array.
+    pub fn first(bytes: [u8; N], len: usize) -> Self
+        requires { len ≤ N }
+        ensures { result ≡ take len bytes.entry }
+    {
+        Text { bytes, len }
+    }
+
+    // A byte behind the text, where there is room.
+    pub fn push(&mut self, b: u8)
+        ensures { length self.old < N → self.new ≡ self.old ++ b ∷ [] }
+    {
+        if self.len < N {
+            self.bytes[self.len] = b;
+            self.len += 1;
+        }
+    }
+
+    // The bytes.
+    pub fn as_slice(&self) -> &[u8]
+        ensures bytes { result.now ≡ self.now }
+        ensures short { length self.now ≤ N }
+    {
+        &self.bytes[..self.len]
+    }
+}
