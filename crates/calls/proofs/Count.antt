@@ -8,8 +8,8 @@ use native.Mathlib.Numerals.{add-one}
 use lib.Dec.{ltb}
 use lib.ListN.{length, length-map, get_or, take, drop, length-append, length-take, length-drop, drop_of_length-le}
 use lib.Seq.{drop-cons}
-use Rattle.sheet.specs.declared.Line.{Line}
-use Rattle.sheet.specs.declared.Line.TheVariants.{Has, Missing}
+use Rattle.sheet.specs.Sheet.{Line}
+use Rattle.std.specs.Prelude.{Some, None}
 use Rattle.sheet.specs.Sheet.{good, keys, sheet_of, registers_of, overlays_of, colours_of}
 use Rattle.sheet.proofs.Good.{sound}
 use Rattle.sheet.specs.Kept.{line_for}
@@ -20,9 +20,9 @@ use Rattle.calls.proofs.Lent.{overlays_kept, colours_kept}
 
 entry_count_lem : (s e : ℕ) (f : Bool) (x : Line) → length (entry_calls s e f x) ≡ entry_count f x
 unfolding entry_calls entry_count
-entry_count_lem s e true (Has v) = refl
-entry_count_lem s e false (Has v) = refl
-entry_count_lem s e f Missing = refl
+entry_count_lem s e true (Some v) = refl
+entry_count_lem s e false (Some v) = refl
+entry_count_lem s e f None = refl
 
 pub count_is : (s e : ℕ) (f : Bool) (l : List Line) → length (table_calls s e f l) ≡ table_count f l
 unfolding table_calls table_count
@@ -37,10 +37,10 @@ owed false = 1
 
 entry_bound : (f : Bool) (x : Line) → entry_count f x + owed (is_there x) ≤ 3 + owed f
 unfolding entry_count owed
-entry_bound true (Has v) = omega arith
-entry_bound false (Has v) = omega arith
-entry_bound true Missing = omega arith
-entry_bound false Missing = omega arith
+entry_bound true (Some v) = omega arith
+entry_bound false (Some v) = omega arith
+entry_bound true None = omega arith
+entry_bound false None = omega arith
 
 table_bound : (f : Bool) (l : List Line) → table_count f l ≤ 3 * length l + owed f
 unfolding table_count
@@ -55,8 +55,8 @@ count_bound l = table_bound false l
 register_bound : (s : ℕ) (l : List Line) → length (register_calls s l) ≤ length l
 unfolding register_calls
 register_bound s [] = omega arith
-register_bound s (Has v ∷ l) = omega (arith, register_bound (s + 1) l)
-register_bound s (Missing ∷ l) = omega (arith, register_bound (s + 1) l)
+register_bound s (Some v ∷ l) = omega (arith, register_bound (s + 1) l)
+register_bound s (None ∷ l) = omega (arith, register_bound (s + 1) l)
 
 -- the list's length, and at most 786
 pub length_calls : (l : List Line) → length (calls_of l)

@@ -7,13 +7,14 @@ use native.Mathlib.Omega.{arith}
 use lib.Dec.{ltb}
 use lib.ListN.{length, length-map}
 use borrow.Author.Tests.{lt-ltb, le-ltb, ltb-true, ltb-false}
-use Rattle.vocabulary.specs.Refusal.{Refusal, lent_length, out_of_range, no_access, no_index, read_mode, still_waiting}
-use Rattle.vocabulary.specs.Refusal.{over_fifteen, malformed, short_buffer}
+use Rattle.vocabulary.specs.declared.Refusal.{Refusal}
+use Rattle.vocabulary.specs.declared.Refusal.TheVariants.{LentLength, OutOfRange, NoAccess, NoIndex, ReadMode, StillWaiting}
+use Rattle.vocabulary.specs.declared.Refusal.TheVariants.{OverFifteen, Malformed, ShortBuffer}
 use Rattle.vocabulary.proofs.Choice.{cases}
 use Rattle.vocabulary.proofs.Call.{stops, goes_on}
 use Rattle.vocabulary.proofs.Range.{clash}
 use Rattle.sheet.specs.declared.Answer.TheVariants.{Done, Refused}
-use Rattle.sheet.specs.declared.Line.{Line}
+use Rattle.sheet.specs.Sheet.{Line}
 use Rattle.sheet.specs.Sheet.{good, bad, keys, key_at, width, required, sheet_of, bad_line, pasted, outcome}
 use Rattle.sheet.proofs.Texts.{required_first, width_register}
 use Rattle.sheet.specs.Grammar.{Lawful}
@@ -26,7 +27,7 @@ use Rattle.calls.proofs.Stored.{length_bytes}
 
 -- what is tried before 8
 abbrev before : List Refusal
-before = lent_length ∷ out_of_range ∷ no_access ∷ no_index ∷ read_mode ∷ still_waiting ∷ over_fifteen ∷ []
+before = LentLength ∷ OutOfRange ∷ NoAccess ∷ NoIndex ∷ ReadMode ∷ StillWaiting ∷ OverFifteen ∷ []
 
 -- a bad sheet is refusal 8, with its line
 pub malformed_eight : (t out : List ℕ) (n : ℕ) → bad (suc n) ≡ sheet_of t
@@ -34,7 +35,7 @@ pub malformed_eight : (t out : List ℕ) (n : ℕ) → bad (suc n) ≡ sheet_of 
 unfolding sheet_to_calls
 malformed_eight t out n e =
     rw (sym e)
-    (stops (call_refusals (bad (suc n)) out) (suc n) out _ before malformed 7 _ refl refl
+    (stops (call_refusals (bad (suc n)) out) (suc n) out _ before Malformed 7 _ refl refl
     (refl, (refl, (refl, (refl, (refl, (refl, (refl, tt))))))) refl)
 
 pub refused_bad : (t out : List ℕ) (n : ℕ) → n ≡ bad_line (sheet_of t) → (n ≡ 0 → ⊥)
@@ -95,7 +96,7 @@ module _ (t kept : List ℕ) {n : ℕ} (line : n ≡ bad_line (sheet_of t)) (rea
     refused_short h =
         let short : length out < bytes = omega (arith, length_bytes (calls_of (map line_for kept))) in
         rw (sym is)
-        (stops (call_refusals (good (map line_for kept)) out) 0 out _ (before ++ (malformed ∷ [])) short_buffer 6 _ refl
+        (stops (call_refusals (good (map line_for kept)) out) 0 out _ (before ++ (Malformed ∷ [])) ShortBuffer 6 _ refl
         refl (refl, (refl, (refl, (refl, (refl, (refl, (refl, (refl, tt)))))))) (lt-ltb (length out) bytes short))
 
     pub done : {left : List ℕ} → 2 * count ≤ length out

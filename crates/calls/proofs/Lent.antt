@@ -7,7 +7,7 @@ use native.Mathlib.Omega.{arith}
 use lib.ListN.{length, take, drop, length-append, length-drop}
 use lib.Seq.{take_all}
 use borrow.Rule.Slice.PartMut.{put_mid, mid_of}
-use Rattle.sheet.specs.declared.Line.{Line}
+use Rattle.sheet.specs.Sheet.{Line}
 use Rattle.sheet.specs.Sheet.{pasted, Wrote, registers_of, overlays_of, colours_of}
 use Rattle.sheet.proofs.Kept.{kept_missing, kept_has}
 use Rattle.sheet.proofs.Paste.{pasted_more, length_pasted, wrote_more, lent_on, length_lent}

@@ -8,7 +8,7 @@ use lib.Dec.{ltb}
 use lib.ListN.{length, get_or, set}
 use lib.Seq.{sets, sets-eq}
 use Rattle.vocabulary.specs.Choice.{pick}
-use Rattle.sheet.specs.declared.Line.TheVariants.{Has, Missing}
+use Rattle.std.specs.Prelude.{Some, None}
 use Rattle.sheet.specs.Sheet.{registers_of, pasted, Wrote}
 use Rattle.sheet.proofs.Kept.{kept_has}
 use Rattle.sheet.proofs.Paste.{pasted_none}
@@ -53,7 +53,7 @@ eight_stored d a b c f g i j k h = stores (a ∷ b ∷ c ∷ f ∷ g ∷ i ∷ j
 pub nothing : (d : List ℕ) (at : ℕ) → Wrote d at [] at d
 nothing d at = (omega arith, sym (pasted_none d at))
 
-there_by : (b : Bool) (x : ℕ) → b ≡ is_there (pick b (Has x) Missing)
+there_by : (b : Bool) (x : ℕ) → b ≡ is_there (pick b (Some x) None)
 unfolding pick
 there_by true x = refl
 there_by false x = refl

@@ -3,8 +3,8 @@
 -- every sheet's lines, no other list does.
 use Rattle.std.specs.Prelude.{ℕ, zero, suc, ◌+◌, ◌-◌, ◌/◌, ◌%◌, ◌≡◌, List, [], ◌∷◌, ◌++◌, eqb, length, get_or}
 use Rattle.vocabulary.specs.Choice.{pick}
-use Rattle.sheet.specs.declared.Line.{Line}
-use Rattle.sheet.specs.declared.Line.TheVariants.{Has, Missing}
+use Rattle.sheet.specs.Sheet.{Line}
+use Rattle.std.specs.Prelude.{Some, None}
 use Rattle.sheet.specs.Sheet.{registers_of, overlays_of, colours_of}
 use Rattle.calls.specs.Calls.{Call, call}
 
@@ -15,20 +15,20 @@ three_writes select v = call select (v / 256) ∷ call select (v / 16 % 16) ∷ 
 -- an entry's calls, by the entry before it and its own line: "An address write comes before the first entry of each
 -- table and where an entry's number isn't the one before plus 1"; a missing entry is not touched
 abbrev pub listed : ℕ → ℕ → Line → Line → List Call
-listed select e (Has u) (Has v) = three_writes select v
-listed select e Missing (Has v) = call 0 e ∷ three_writes select v
-listed select e (Has u) Missing = []
-listed select e Missing Missing = []
+listed select e (Some u) (Some v) = three_writes select v
+listed select e None (Some v) = call 0 e ∷ three_writes select v
+listed select e (Some u) None = []
+listed select e None None = []
 
 -- the line of the entry before e; before entry 0 there is none
 abbrev pub before : List Line → ℕ → Line
-before l e = pick (eqb e 0) Missing (get_or l (e - 1) Missing)
+before l e = pick (eqb e 0) None (get_or l (e - 1) None)
 
 -- a table's n entries from e on, ascending
 unfoldable pub entries_from : ℕ → List Line → ℕ → ℕ → List Call
 entries_from select l e zero = []
 entries_from select l e (suc n) =
-    listed select e (before l e) (get_or l e Missing) ++ entries_from select l (e + 1) n
+    listed select e (before l e) (get_or l e None) ++ entries_from select l (e + 1) n
 
 abbrev pub all_entries : ℕ → List Line → List Call
 all_entries select l = entries_from select l 0 (length l)
@@ -38,7 +38,7 @@ all_entries select l = entries_from select l 0 (length l)
 abbrev pub ByEntry : (List Line → List Call) → Type 0
 ByEntry calls =
     (l : List Line) (read blink control timing : ℕ)
-    → registers_of l ≡ Has read ∷ Has blink ∷ Has control ∷ Has timing ∷ []
+    → registers_of l ≡ Some read ∷ Some blink ∷ Some control ∷ Some timing ∷ []
     → calls l
     ≡ (call 4 read ∷ call 5 blink ∷ call 6 control ∷ call 7 timing ∷ [])
     ++ (all_entries 3 (overlays_of l) ++ all_entries 1 (colours_of l))

@@ -1,9 +1,10 @@
 -- The call list of a sheet: document 01, "The sheet and its calls". A call is a write of a byte to a select of chip A.
 use Rattle.std.specs.Prelude.{ℕ, ◌+◌, Bool, true, false, List, [], ◌∷◌, ◌++◌, ltb, length}
-use Rattle.vocabulary.specs.Refusal.{Row, ◌when◌, malformed, short_buffer, refusal_of}
+use Rattle.vocabulary.specs.Refusal.{Row, ◌when◌, refusal_of}
+use Rattle.vocabulary.specs.declared.Refusal.TheVariants.{Malformed, ShortBuffer}
 use Rattle.vocabulary.specs.Outcome.{Outcome, accepting, answered_at}
-use Rattle.sheet.specs.declared.Line.{Line}
-use Rattle.sheet.specs.declared.Line.TheVariants.{Has, Missing}
+use Rattle.sheet.specs.Sheet.{Line}
+use Rattle.std.specs.Prelude.{Some, None}
 use Rattle.sheet.specs.Sheet.{Reading, sheet_of, lines_of, bad_line, is_bad, registers_of, overlays_of, colours_of}
 use Rattle.sheet.specs.Sheet.{red_of, green_of, blue_of, pasted}
 
@@ -17,8 +18,8 @@ call select byte = record { select = select; byte = byte }
 -- one write for each register, to selects 4, 5, 6, 7
 unfoldable pub register_calls : ℕ → List Line → List Call
 register_calls select [] = []
-register_calls select (Has v ∷ l) = call select v ∷ register_calls (select + 1) l
-register_calls select (Missing ∷ l) = register_calls (select + 1) l
+register_calls select (Some v ∷ l) = call select v ∷ register_calls (select + 1) l
+register_calls select (None ∷ l) = register_calls (select + 1) l
 
 -- an address write, unless the entry follows the one before it
 abbrev pub address_calls : Bool → ℕ → List Call
@@ -31,12 +32,12 @@ colour_calls select v = call select (red_of v) ∷ call select (green_of v) ∷ 
 
 -- an entry's calls; none where it is missing
 unfoldable pub entry_calls : ℕ → ℕ → Bool → Line → List Call
-entry_calls select entry follows (Has v) = address_calls follows entry ++ colour_calls select v
-entry_calls select entry follows Missing = []
+entry_calls select entry follows (Some v) = address_calls follows entry ++ colour_calls select v
+entry_calls select entry follows None = []
 
 abbrev pub is_there : Line → Bool
-is_there (Has v) = true
-is_there Missing = false
+is_there (Some v) = true
+is_there None = false
 
 -- A table's calls, from an entry on: "An address write comes before the first entry of each table and where an entry's
 -- number isn't the one before plus 1."
@@ -60,7 +61,7 @@ call_bytes (x ∷ l) = x.select ∷ x.byte ∷ call_bytes l
 -- when the step is refused: a malformed sheet, a buffer shorter than the list
 abbrev pub call_refusals : Reading → List ℕ → List Row
 call_refusals r out =
-    (malformed when is_bad r) ∷ (short_buffer when ltb (length out) (length (call_bytes (calls_of (lines_of r))))) ∷ []
+    (Malformed when is_bad r) ∷ (ShortBuffer when ltb (length out) (length (call_bytes (calls_of (lines_of r))))) ∷ []
 
 -- its whole outcome, of the sheet's text and the buffer; the count is of calls
 unfoldable pub sheet_to_calls : List ℕ → List ℕ → Outcome (List ℕ)

@@ -6,7 +6,7 @@ use native.Mathlib.Nat.{zero-add, mul_comm, mul-add-div, div-one, div-eq_of_lt, 
 use native.Mathlib.Omega.{arith}
 use lib.Pow.{pow_pos}
 use Rattle.vocabulary.specs.Line.{line}
-use Rattle.vocabulary.specs.Refusal.{out_of_range, lent_length}
+use Rattle.vocabulary.specs.declared.Refusal.TheVariants.{OutOfRange, LentLength}
 use Rattle.vocabulary.specs.Outcome.{accepting}
 use Rattle.vocabulary.proofs.Range.{holds_passes, not_fails}
 use Rattle.vocabulary.proofs.Refusals.{refusal_is, refusal_none}
@@ -23,7 +23,7 @@ module _ (w v : ℕ) where
   unfolding expansion
   refused n =
       sym (refused_as 8 0 tt _
-      (refusal_is (refusals w v) (lent_length ∷ []) out_of_range _ refl (refl, tt)
+      (refusal_is (refusals w v) (LentLength ∷ []) OutOfRange _ refl (refl, tt)
       (not_fails _ (λ g. n g.0 g.1.0 g.1.1.0))))
 
   -- a width that is not there is refusal 9, whatever the value

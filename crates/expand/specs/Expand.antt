@@ -3,7 +3,8 @@
 use Rattle.std.specs.Prelude.{ℕ, zero, suc, ◌+◌, ◌*◌, ◌-◌, ◌^◌, ◌%◌, List, [], ◌∷◌}
 use Rattle.vocabulary.specs.Line.{line}
 use Rattle.vocabulary.specs.Range.{below, fails}
-use Rattle.vocabulary.specs.Refusal.{Row, ◌when◌, out_of_range, number, refusal_of}
+use Rattle.vocabulary.specs.Refusal.{Row, ◌when◌, number, refusal_of}
+use Rattle.vocabulary.specs.declared.Refusal.TheVariants.{OutOfRange}
 use Rattle.vocabulary.specs.Outcome.{Outcome, accepting, refusing, answered}
 use Rattle.expand.specs.declared.Expanded.{Expanded}
 use Rattle.expand.specs.declared.Expanded.TheVariants.{Ten, Refused}
@@ -23,7 +24,7 @@ ten w v = filled w v 10
 
 -- when an expansion is refused: a width outside 4 to 8, or a value that w bits do not hold
 abbrev pub refusals : ℕ → ℕ → List Row
-refusals w v = (out_of_range when fails (below 3 w ∷ below w 9 ∷ below v (2 ^ w) ∷ [])) ∷ []
+refusals w v = (OutOfRange when fails (below 3 w ∷ below w 9 ∷ below v (2 ^ w) ∷ [])) ∷ []
 
 -- an expansion's whole outcome; it has no state and is lent nothing
 unfoldable pub expansion : ℕ → ℕ → Outcome Unit
@@ -32,4 +33,4 @@ expansion w v = answered (refusal_of (refusals w v)) tt (accepting (ten w v) 0 t
 -- what each answer means
 abbrev pub meaning : Expanded → Outcome Unit
 meaning (Ten t) = accepting t 0 tt
-meaning Refused = refusing (number out_of_range) 0 tt
+meaning Refused = refusing (number OutOfRange) 0 tt

@@ -7,7 +7,8 @@ use mathlib.Core.List.{List, [], ◌∷◌, ◌++◌}
 use mathlib.Core.Bool.{Bool, true, false}
 use lib.ListN.{length}
 use Rattle.vocabulary.specs.Range.{Bound, below, fails}
-use Rattle.vocabulary.specs.Refusal.{lent_length, out_of_range, no_access, refusal_of, standing}
+use Rattle.vocabulary.specs.Refusal.{refusal_of, standing}
+use Rattle.vocabulary.specs.declared.Refusal.TheVariants.{LentLength, OutOfRange, NoAccess}
 use Rattle.vocabulary.specs.Outcome.{Outcome, accepting, refusing, answered}
 use Rattle.vocabulary.specs.Component.{component_at, red, green, blue}
 use Rattle.vocabulary.specs.Face.{called_by}
@@ -115,7 +116,7 @@ module _ (c : Chip) (given : List Bound) (select : ℕ) (done : Outcome Chip) wh
     select_stops : no_register (register_at select) ≡ true
         → refusing 3 0 c ≡ answered (refusal_of (access_refusals given select c)) c done
     select_stops h =
-        stops (access_refusals given select c) 0 c done (lent_length ∷ out_of_range ∷ []) no_access 2 _ refl refl
+        stops (access_refusals given select c) 0 c done (LentLength ∷ OutOfRange ∷ []) NoAccess 2 _ refl refl
         (not_short c g, (passes, tt)) h
 
     select_serves : Served select → done ≡ answered (refusal_of (access_refusals given select c)) c done

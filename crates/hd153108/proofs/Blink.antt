@@ -4,7 +4,7 @@ use native.Mathlib.Omega.{arith}
 use mathlib.Core.Path.{◌≡◌, refl, sym}
 use mathlib.Core.Bool.{true, false}
 use mathlib.Core.List.{[], ◌∷◌}
-use Rattle.vocabulary.specs.Refusal.{lent_length, out_of_range}
+use Rattle.vocabulary.specs.declared.Refusal.TheVariants.{LentLength, OutOfRange}
 use Rattle.vocabulary.specs.Outcome.{accepting, refusing}
 use Rattle.vocabulary.proofs.Range.{holds_passes, not_fails}
 use Rattle.vocabulary.proofs.Refusals.{refusal_is, refusal_none}
@@ -25,7 +25,7 @@ module _ (timing position p : ℕ) (e : p ≡ period timing) where
   unfolding tick
   tick_refused h =
       sym (refused_as 8 0 _ _
-      (refusal_is (tick_refusals (clock timing position)) (lent_length ∷ []) out_of_range _ refl (refl, tt)
+      (refusal_is (tick_refusals (clock timing position)) (LentLength ∷ []) OutOfRange _ refl (refl, tt)
       (not_fails _ (λ g. omega arith))))
 
   pub tick_accepted : timing < 256 → position < p

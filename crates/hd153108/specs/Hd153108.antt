@@ -15,7 +15,8 @@ use Rattle.std.specs.Prelude.{ℕ, zero, suc, ◌+◌, ◌-◌, ◌*◌, ◌/◌
 use Rattle.std.specs.Int.Bits.{bit_and}
 use Rattle.vocabulary.specs.Line.{line}
 use Rattle.vocabulary.specs.Range.{Bound, below, equal, clear, fails}
-use Rattle.vocabulary.specs.Refusal.{Row, ◌when◌, lent_length, out_of_range, no_access, refusal_of}
+use Rattle.vocabulary.specs.Refusal.{Row, ◌when◌, refusal_of}
+use Rattle.vocabulary.specs.declared.Refusal.TheVariants.{LentLength, OutOfRange, NoAccess}
 use Rattle.vocabulary.specs.Outcome.{Outcome, accepting, not_reached, answered}
 use Rattle.vocabulary.specs.Component.{Component, red, green, blue, component_at, put, colour_word}
 use Rattle.vocabulary.specs.Look.{Block, ◌has◌, ◌holds◌, found, look_refusals, looked}
@@ -360,9 +361,9 @@ no_register blink_timing = false
 -- a write or a read, by what it is given besides its select
 abbrev pub access_refusals : List Bound → ℕ → Chip → List Row
 access_refusals given select c =
-    (lent_length when short c) ∷
-    (out_of_range when fails (given ++ ranges c)) ∷
-    (no_access when no_register (register_at select)) ∷
+    (LentLength when short c) ∷
+    (OutOfRange when fails (given ++ ranges c)) ∷
+    (NoAccess when no_register (register_at select)) ∷
     []
 
 abbrev pub write_refusals : ℕ → ℕ → Chip → List Row
@@ -373,7 +374,7 @@ read_refusals select c = access_refusals [] select c
 
 -- a tick asks of the clock alone
 abbrev pub tick_refusals : Clock → List Row
-tick_refusals k = (out_of_range when fails (clock_ranges k)) ∷ []
+tick_refusals k = (OutOfRange when fails (clock_ranges k)) ∷ []
 
 -- a pixel's overlay enable is 0 or 1, and its overlay number 0..3, with the enable off too
 abbrev pub pixel_ranges : ℕ → ℕ → List Bound
@@ -381,7 +382,7 @@ pixel_ranges enable number = below enable 2 ∷ below number 4 ∷ []
 
 abbrev pub pixel_refusals : ℕ → ℕ → Chip → List Row
 pixel_refusals enable number c =
-    (lent_length when short c) ∷ (out_of_range when fails (pixel_ranges enable number ++ ranges c)) ∷ []
+    (LentLength when short c) ∷ (OutOfRange when fails (pixel_ranges enable number ++ ranges c)) ∷ []
 
 -- ---- The face
 

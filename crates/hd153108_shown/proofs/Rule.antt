@@ -9,7 +9,7 @@ use lib.Dec.{eqb}
 use borrow.Author.Tests.{ne_eqb}
 use Rattle.vocabulary.specs.Line.{line}
 use Rattle.vocabulary.specs.Range.{Holds}
-use Rattle.vocabulary.specs.Refusal.{lent_length, out_of_range}
+use Rattle.vocabulary.specs.declared.Refusal.TheVariants.{LentLength, OutOfRange}
 use Rattle.vocabulary.specs.Outcome.{Outcome, accepting}
 use Rattle.vocabulary.proofs.Range.{clash, not_fails, holds_parts, fails_right}
 use Rattle.vocabulary.proofs.Call.{tried_first, stops, goes_on}
@@ -39,7 +39,7 @@ module _ (enable number byte : ℕ) (c : Chip) where
   unfolding pixel_part
   outside_refused g h = record {
     means =
-        stops (pixel_refusals enable number c) 0 [] _ (lent_length ∷ []) out_of_range 8 _ refl refl (not_short c g, tt)
+        stops (pixel_refusals enable number c) 0 [] _ (LentLength ∷ []) OutOfRange 8 _ refl refl (not_short c g, tt)
         (not_fails _ (λ f. h (holds_parts (pixel_ranges enable number) (ranges c) f).0));
     inside = tt;
     which = tt;

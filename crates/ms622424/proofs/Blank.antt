@@ -4,7 +4,7 @@ use mathlib.Core.Path.{◌≡◌, refl, sym, ap, ◌∙◌}
 use mathlib.Core.List.{[], ◌∷◌}
 use native.Mathlib.Omega.{arith}
 use lib.ListN.{length, length-drop}
-use Rattle.vocabulary.specs.Refusal.{lent_length, out_of_range}
+use Rattle.vocabulary.specs.declared.Refusal.TheVariants.{LentLength, OutOfRange}
 use Rattle.vocabulary.specs.Outcome.{Outcome, accepting, refusing}
 use Rattle.vocabulary.specs.Face.{called_by}
 use Rattle.vocabulary.proofs.Range.{holds_passes, not_fails}
@@ -17,7 +17,7 @@ module _ (slots : ℕ) (c : Chip) (h : InRange c) where
   pub blank_too_many : 65536 ≤ slots → refusing 9 0 c ≡ called (blanks slots) c
   unfolding called_by
   blank_too_many l =
-      stops (blank_refusals slots c) 0 c _ (lent_length ∷ []) out_of_range 8 _ refl refl (lengths_right c h, tt)
+      stops (blank_refusals slots c) 0 c _ (LentLength ∷ []) OutOfRange 8 _ refl refl (lengths_right c h, tt)
       (not_fails _ (λ g. omega arith))
 
   pub blank_does : slots < 65536 → {n : ℕ} {after : Chip} → made n after ≡ moves slots c

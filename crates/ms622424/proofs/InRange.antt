@@ -4,7 +4,8 @@ use mathlib.Core.Path.{◌≡◌, sym, ◌∙◌}
 use mathlib.Core.Bool.{Bool, true, false}
 use mathlib.Core.List.{[], ◌∷◌}
 use Rattle.vocabulary.specs.Range.{below, Holds}
-use Rattle.vocabulary.specs.Refusal.{refusal_of, standing, due, lent_length, out_of_range}
+use Rattle.vocabulary.specs.Refusal.{refusal_of, standing, due}
+use Rattle.vocabulary.specs.declared.Refusal.TheVariants.{LentLength, OutOfRange}
 use Rattle.vocabulary.specs.Outcome.{refusing}
 use Rattle.vocabulary.specs.Face.{called_by}
 use Rattle.vocabulary.proofs.Range.{holds_passes, passes_holds, fails_right, clash}
@@ -42,7 +43,7 @@ lent_map (signals s) = false
 lent_map resets = false
 lent_map (looks place) = true
 
-outside_due : (k : Call) (c : Chip) → lent_map k ≡ true → outside c ≡ true → due (refusals k c) out_of_range ≡ true
+outside_due : (k : Call) (c : Chip) → lent_map k ≡ true → outside c ≡ true → due (refusals k c) OutOfRange ≡ true
 outside_due (writes select byte) c e = fails_right (below byte 256 ∷ []) (ranges c)
 outside_due (reads select) c e = λ f. f
 outside_due (blanks slots) c e = fails_right (below slots 65536 ∷ []) (ranges c)
@@ -51,7 +52,7 @@ outside_due (signals s) c e = clash (sym e)
 outside_due resets c e = clash (sym e)
 outside_due (looks place) c e = λ f. f
 
-pub tried : (k : Call) (c : Chip) (n : ℕ) → lent_map k ≡ true → due (refusals k c) lent_length ≡ short c
+pub tried : (k : Call) (c : Chip) (n : ℕ) → lent_map k ≡ true → due (refusals k c) LentLength ≡ short c
     → n ≡ refusal_of (standing (short c) (outside c)) → (n ≡ 0 → ⊥) → refusing n 0 c ≡ called k c
 unfolding called_by
 tried k c n m s e z =

@@ -5,7 +5,7 @@ use mathlib.Core.List.{[], ◌∷◌}
 use native.Mathlib.Nat.{add-zero}
 use native.Mathlib.Omega.{arith}
 use lib.ListN.{get_or}
-use Rattle.vocabulary.specs.Refusal.{lent_length, out_of_range}
+use Rattle.vocabulary.specs.declared.Refusal.TheVariants.{LentLength, OutOfRange}
 use Rattle.vocabulary.specs.Outcome.{accepting, refusing}
 use Rattle.vocabulary.specs.Component.{Component, red, green, blue, colour_word}
 use Rattle.vocabulary.specs.Face.{called_by}
@@ -33,7 +33,7 @@ module _ (mode word : ℕ) (c : Chip) (h : InRange c) where
   pub pixel_outside : (mode < 4 → word < 2 ^ 24 → ⊥) → refusing 9 0 c ≡ called (pixels mode word) c
   unfolding called_by
   pixel_outside f =
-      stops (pixel_refusals mode word c) 0 c _ (lent_length ∷ []) out_of_range 8 _ refl refl (lengths_right c h, tt)
+      stops (pixel_refusals mode word c) 0 c _ (LentLength ∷ []) OutOfRange 8 _ refl refl (lengths_right c h, tt)
       (not_fails _ (λ g. f g.0 g.1.0))
 
   -- the three bytes at the entries that the guns show

@@ -6,7 +6,7 @@ use mathlib.Core.List.{[], ◌∷◌}
 use borrow.Author.Tests.{eq-eqb, ne_eqb}
 use lib.Dec.{eqb}
 use lib.ListN.{length, get_or-eq_default}
-use Rattle.vocabulary.specs.Refusal.{lent_length, out_of_range, no_access, no_index, read_mode, still_waiting}
+use Rattle.vocabulary.specs.declared.Refusal.TheVariants.{LentLength, OutOfRange, NoAccess, NoIndex, ReadMode, StillWaiting}
 use Rattle.vocabulary.specs.Outcome.{Outcome, accepting, refusing}
 use Rattle.vocabulary.specs.Component.{Component, green, blue}
 use Rattle.vocabulary.specs.Choice.{pick}
@@ -48,7 +48,7 @@ module _ (select : ℕ) (c : Chip) (h : InRange c) where
   read_no_access : readable (register_at select) (selected c.port) ≡ false → refusing 3 0 c ≡ called (reads select) c
   unfolding called_by
   read_no_access e =
-      stops (read_refusals select c) 0 c _ (lent_length ∷ out_of_range ∷ []) no_access 2 _ refl refl
+      stops (read_refusals select c) 0 c _ (LentLength ∷ OutOfRange ∷ []) NoAccess 2 _ refl refl
       (lengths_right c h, (ranges_right c h, tt)) (ap not e)
 
   -- the palette outside read mode, and with entries waiting
@@ -56,7 +56,7 @@ module _ (select : ℕ) (c : Chip) (h : InRange c) where
   unfolding called_by register_at readable
   read_outside_mode e f =
       rw e
-      (stops (read_refusals 2 c) 0 c _ (lent_length ∷ out_of_range ∷ no_access ∷ no_index ∷ []) read_mode 4 _ refl refl
+      (stops (read_refusals 2 c) 0 c _ (LentLength ∷ OutOfRange ∷ NoAccess ∷ NoIndex ∷ []) ReadMode 4 _ refl refl
       (lengths_right c h, (ranges_right c h, (refl, (refl, tt)))) (eq-eqb _ 0 f))
 
   pub read_waiting : select ≡ 2 → (c.control.readmode ≡ 0 → ⊥) → (length c.waiting ≡ 0 → ⊥)
@@ -64,7 +64,7 @@ module _ (select : ℕ) (c : Chip) (h : InRange c) where
   unfolding called_by register_at readable
   read_waiting e f g =
       rw e
-      (stops (read_refusals 2 c) 0 c _ (lent_length ∷ out_of_range ∷ no_access ∷ no_index ∷ read_mode ∷ []) still_waiting 5
+      (stops (read_refusals 2 c) 0 c _ (LentLength ∷ OutOfRange ∷ NoAccess ∷ NoIndex ∷ ReadMode ∷ []) StillWaiting 5
       _ refl refl
       (lengths_right c h, (ranges_right c h, (refl, (refl, (ne_eqb _ 0 f, tt))))) (ap not (ne_eqb _ 0 g)))
 

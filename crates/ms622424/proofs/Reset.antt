@@ -3,7 +3,7 @@ use mathlib.Core.Path.{◌≡◌, refl}
 use mathlib.Core.Bool.{false}
 use mathlib.Core.List.{[], ◌∷◌}
 use Rattle.vocabulary.specs.Range.{Holds}
-use Rattle.vocabulary.specs.Refusal.{lent_length, out_of_range}
+use Rattle.vocabulary.specs.declared.Refusal.TheVariants.{LentLength, OutOfRange}
 use Rattle.vocabulary.specs.Outcome.{accepting, refusing}
 use Rattle.vocabulary.specs.Face.{called_by}
 use Rattle.vocabulary.proofs.Range.{holds_passes, not_fails}
@@ -15,7 +15,7 @@ use Rattle.ms622424.specs.Ms622424.{called}
 module _ (c : Chip) where
   pub reset_short : (c.lent.places ≡ 64 → ⊥) → refusing 1 0 c ≡ called resets c
   unfolding called_by
-  reset_short h = stops (reset_refusals c) 0 c _ [] lent_length 0 _ refl refl tt (not_fails _ (λ g. h g.0))
+  reset_short h = stops (reset_refusals c) 0 c _ [] LentLength 0 _ refl refl tt (not_fails _ (λ g. h g.0))
 
   module _ (l : c.lent.places ≡ 64) where
     long : short_queue c ≡ false
@@ -24,7 +24,7 @@ module _ (c : Chip) where
     pub reset_outside : (Holds (ident_ranges c.ident) → ⊥) → refusing 9 0 c ≡ called resets c
     unfolding called_by
     reset_outside h =
-        stops (reset_refusals c) 0 c _ (lent_length ∷ []) out_of_range 8 _ refl refl (long, tt) (not_fails _ h)
+        stops (reset_refusals c) 0 c _ (LentLength ∷ []) OutOfRange 8 _ refl refl (long, tt) (not_fails _ h)
 
     pub reset_does : Holds (ident_ranges c.ident) → accepting 0 0 (fresh c) ≡ called resets c
     unfolding called_by

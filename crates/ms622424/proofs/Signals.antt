@@ -5,7 +5,8 @@ use mathlib.Core.Bool.{false}
 use mathlib.Core.List.{[], ◌∷◌}
 use native.Mathlib.Omega.{arith}
 use Rattle.vocabulary.specs.Range.{below, Holds}
-use Rattle.vocabulary.specs.Refusal.{refusal_of, standing, lent_length, out_of_range}
+use Rattle.vocabulary.specs.Refusal.{refusal_of, standing}
+use Rattle.vocabulary.specs.declared.Refusal.TheVariants.{LentLength, OutOfRange}
 use Rattle.vocabulary.specs.Outcome.{accepting, refusing}
 use Rattle.vocabulary.specs.Face.{called_by}
 use Rattle.vocabulary.proofs.Range.{holds_passes, passes_holds, not_fails, fails_right}
@@ -28,7 +29,7 @@ module _ (s : ℕ) (c : Chip) {n : ℕ} (e : n ≡ refusal_of (standing (short_q
     pub signals_outside : 16 ≤ s → refusing 9 0 c ≡ called (signals s) c
     unfolding called_by
     signals_outside h =
-        stops (signal_refusals s c) 0 c _ (lent_length ∷ []) out_of_range 8 _ refl refl (long, tt)
+        stops (signal_refusals s c) 0 c _ (LentLength ∷ []) OutOfRange 8 _ refl refl (long, tt)
         (not_fails _ (λ g. omega arith))
 
     pub signals_range : Holds (ranges c)

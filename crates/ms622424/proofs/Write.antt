@@ -6,7 +6,7 @@ use mathlib.Core.List.{[], ◌∷◌}
 use borrow.Author.Tests.{eq-eqb}
 use lib.Dec.{eqb}
 use Rattle.vocabulary.specs.Range.{below, fails}
-use Rattle.vocabulary.specs.Refusal.{lent_length, out_of_range, no_access, no_index, read_mode}
+use Rattle.vocabulary.specs.declared.Refusal.TheVariants.{LentLength, OutOfRange, NoAccess, NoIndex, ReadMode}
 use Rattle.vocabulary.specs.Outcome.{Outcome, accepting, refusing}
 use Rattle.vocabulary.specs.Component.{red, green, blue}
 use Rattle.vocabulary.specs.Face.{called_by}
@@ -83,7 +83,7 @@ module _ (select byte : ℕ) (c : Chip) (h : InRange c) (small : byte < 256) whe
   write_no_access : writable (register_at select) ≡ false → refusing 3 0 c ≡ called (writes select byte) c
   unfolding called_by
   write_no_access e =
-      stops (write_refusals select byte c) 0 c _ (lent_length ∷ out_of_range ∷ []) no_access 2 _ refl refl
+      stops (write_refusals select byte c) 0 c _ (LentLength ∷ OutOfRange ∷ []) NoAccess 2 _ refl refl
       (lengths_right c h, (inside, tt)) (ap not e)
 
   -- the palette in read mode
@@ -91,7 +91,7 @@ module _ (select byte : ℕ) (c : Chip) (h : InRange c) (small : byte < 256) whe
   unfolding called_by register_at writable
   write_read_mode e f =
       rw e
-      (stops (write_refusals 2 byte c) 0 c _ (lent_length ∷ out_of_range ∷ no_access ∷ no_index ∷ []) read_mode 4 _ refl refl
+      (stops (write_refusals 2 byte c) 0 c _ (LentLength ∷ OutOfRange ∷ NoAccess ∷ NoIndex ∷ []) ReadMode 4 _ refl refl
       (lengths_right c h, (inside, (refl, (refl, tt)))) (eq-eqb _ 1 f))
 
   -- every other select

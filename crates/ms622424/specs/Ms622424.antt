@@ -15,7 +15,8 @@
 use Rattle.std.specs.Prelude.{ℕ, zero, suc, ◌+◌, ◌*◌, ◌/◌, ◌%◌, ◌^◌, ◌<◌, min, max, ◌≡◌, Bool, true, false, not, ◌&&◌, List, [], ◌∷◌, ◌++◌, ltb, leb, eqb, length, get_or}
 use Rattle.vocabulary.specs.Choice.{pick}
 use Rattle.vocabulary.specs.Range.{Bound, below, equal, tested, fails}
-use Rattle.vocabulary.specs.Refusal.{Row, ◌when◌, lent_length, out_of_range, no_access, read_mode, still_waiting}
+use Rattle.vocabulary.specs.Refusal.{Row, ◌when◌}
+use Rattle.vocabulary.specs.declared.Refusal.TheVariants.{LentLength, OutOfRange, NoAccess, ReadMode, StillWaiting}
 use Rattle.vocabulary.specs.Outcome.{Outcome, accepting, unreached, not_reached}
 use Rattle.vocabulary.specs.Component.{Component, red, green, blue, component_at, part, one_of, put, colour_word}
 use Rattle.vocabulary.specs.Every.{every}
@@ -248,10 +249,10 @@ written none byte c = not_reached c
 
 abbrev pub write_refusals : ℕ → ℕ → Chip → List Row
 write_refusals select byte c =
-    (lent_length when short c) ∷
-    (out_of_range when fails (below byte 256 ∷ ranges c)) ∷
-    (no_access when not (writable (register_at select))) ∷
-    (read_mode when (eqb select 2 && eqb c.control.readmode 1)) ∷
+    (LentLength when short c) ∷
+    (OutOfRange when fails (below byte 256 ∷ ranges c)) ∷
+    (NoAccess when not (writable (register_at select))) ∷
+    (ReadMode when (eqb select 2 && eqb c.control.readmode 1)) ∷
     []
 
 -- ---- Internal Registers
@@ -319,11 +320,11 @@ answers none c = not_reached c
 
 abbrev pub read_refusals : ℕ → Chip → List Row
 read_refusals select c =
-    (lent_length when short c) ∷
-    (out_of_range when outside c) ∷
-    (no_access when not (readable (register_at select) (selected c.port))) ∷
-    (read_mode when (eqb select 2 && eqb c.control.readmode 0)) ∷
-    (still_waiting when (eqb select 2 && not (eqb (length c.waiting) 0))) ∷
+    (LentLength when short c) ∷
+    (OutOfRange when outside c) ∷
+    (NoAccess when not (readable (register_at select) (selected c.port))) ∷
+    (ReadMode when (eqb select 2 && eqb c.control.readmode 0)) ∷
+    (StillWaiting when (eqb select 2 && not (eqb (length c.waiting) 0))) ∷
     []
 
 -- ---- CBLANKB: "it is therefore permissible to change data in the palette RAM"
@@ -334,7 +335,7 @@ blanked slots c = let m = moves slots c in accepting 0 m.count m.after
 
 abbrev pub blank_refusals : ℕ → Chip → List Row
 blank_refusals slots c =
-    (lent_length when short c) ∷ (out_of_range when fails (below slots 65536 ∷ ranges c)) ∷ []
+    (LentLength when short c) ∷ (OutOfRange when fails (below slots 65536 ∷ ranges c)) ∷ []
 
 -- ---- PIXIN0–PIXIN23, PIX.RGB0–PIX.RGB1: a pixel
 
@@ -358,7 +359,7 @@ shown mode word c =
 
 abbrev pub pixel_refusals : ℕ → ℕ → Chip → List Row
 pixel_refusals mode word c =
-    (lent_length when short c) ∷ (out_of_range when fails (below mode 4 ∷ below word (2 ^ 24) ∷ ranges c)) ∷ []
+    (LentLength when short c) ∷ (OutOfRange when fails (below mode 4 ∷ below word (2 ^ 24) ∷ ranges c)) ∷ []
 
 -- ---- PIPE.IN0–PIPE.IN3: the four timing signals
 
@@ -372,7 +373,7 @@ pipe_out cb s =
 
 -- they are lent no map
 abbrev pub signal_refusals : ℕ → Chip → List Row
-signal_refusals s c = (lent_length when short_queue c) ∷ (out_of_range when fails (below s 16 ∷ ranges c)) ∷ []
+signal_refusals s c = (LentLength when short_queue c) ∷ (OutOfRange when fails (below s 16 ∷ ranges c)) ∷ []
 
 -- ---- RSB: reset
 
@@ -383,7 +384,7 @@ fresh c = chip (port 0 0 0 0) (control 3 0) c.ident [] c.map (record { places = 
 
 -- a reset is lent no map, and reads revision and board number alone
 abbrev pub reset_refusals : Chip → List Row
-reset_refusals c = (lent_length when short_queue c) ∷ (out_of_range when fails (ident_ranges c.ident)) ∷ []
+reset_refusals c = (LentLength when short_queue c) ∷ (OutOfRange when fails (ident_ranges c.ident)) ∷ []
 
 -- ---- The places of a look (request P5): the registers, how many colours wait, the queue's first position, and each
 -- byte of the map as stored

@@ -5,7 +5,8 @@ use mathlib.Core.Bool.{Bool, true, false, ◌&&◌}
 use mathlib.Core.List.{List, [], ◌∷◌, ◌++◌}
 use lib.ListN.{length}
 use Rattle.vocabulary.specs.Range.{Bound, below, fails}
-use Rattle.vocabulary.specs.Refusal.{Row, lent_length, out_of_range, no_access, no_index, refusal_of}
+use Rattle.vocabulary.specs.Refusal.{Row, refusal_of}
+use Rattle.vocabulary.specs.declared.Refusal.TheVariants.{LentLength, OutOfRange, NoAccess, NoIndex}
 use Rattle.vocabulary.specs.Outcome.{Outcome, accepting, refusing, answered}
 use Rattle.vocabulary.specs.Face.{called_by}
 use Rattle.vocabulary.proofs.Range.{holds_passes, fails_right}
@@ -32,13 +33,13 @@ module _ (given : List Bound) (register : Register) (wrong : Bool) (c : Chip) (d
 
     -- the port
     pub no_port_lem : no_port register ≡ true → refusing 3 0 c ≡ answered (refusal_of rows) c done
-    no_port_lem h = stops rows 0 c done (lent_length ∷ out_of_range ∷ []) no_access 2 _ refl refl (long, (g, tt)) h
+    no_port_lem h = stops rows 0 c done (LentLength ∷ OutOfRange ∷ []) NoAccess 2 _ refl refl (long, (g, tt)) h
 
     module _ (p : no_port register ≡ false) where
       -- the index
       pub no_index_lem : (is_data register && wrong) ≡ true → refusing 4 0 c ≡ answered (refusal_of rows) c done
       no_index_lem h =
-          stops rows 0 c done (lent_length ∷ out_of_range ∷ no_access ∷ []) no_index 3 _ refl refl (long, (g, (p, tt))) h
+          stops rows 0 c done (LentLength ∷ OutOfRange ∷ NoAccess ∷ []) NoIndex 3 _ refl refl (long, (g, (p, tt))) h
 
       -- none
       pub accepts : (is_data register && wrong) ≡ false → done ≡ answered (refusal_of rows) c done

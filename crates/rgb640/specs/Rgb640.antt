@@ -16,7 +16,8 @@ use Rattle.std.specs.Prelude.{ℕ, ◌+◌, ◌-◌, ◌*◌, ◌/◌, ◌%◌, 
 use Rattle.vocabulary.specs.Choice.{pick}
 use Rattle.vocabulary.specs.Line.{line}
 use Rattle.vocabulary.specs.Range.{Bound, below, equal, within, meets, fails}
-use Rattle.vocabulary.specs.Refusal.{Row, ◌when◌, lent_length, out_of_range, no_access, no_index, refusal_of, standing}
+use Rattle.vocabulary.specs.Refusal.{Row, ◌when◌, refusal_of, standing}
+use Rattle.vocabulary.specs.declared.Refusal.TheVariants.{LentLength, OutOfRange, NoAccess, NoIndex}
 use Rattle.vocabulary.specs.Outcome.{Outcome, accepting, unreached}
 use Rattle.vocabulary.specs.Component.{Component, red, green, blue, one_of, put}
 use Rattle.vocabulary.specs.Look.{Block, ◌has◌, ◌holds◌, found, look_refusals, looked}
@@ -318,10 +319,10 @@ is_against against = true
 -- an access of a port: what it is given besides, and whether the index's space is against its direction
 abbrev pub access_refusals : List Bound → Register → Bool → Chip → List Row
 access_refusals given register wrong c =
-    (lent_length when short c) ∷
-    (out_of_range when fails (given ++ ranges c)) ∷
-    (no_access when no_port register) ∷
-    (no_index when is_data register && wrong) ∷
+    (LentLength when short c) ∷
+    (OutOfRange when fails (given ++ ranges c)) ∷
+    (NoAccess when no_port register) ∷
+    (NoIndex when is_data register && wrong) ∷
     []
 
 abbrev pub write_refusals : ℕ → ℕ → Chip → List Row

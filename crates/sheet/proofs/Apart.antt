@@ -12,8 +12,8 @@ use Rattle.vocabulary.proofs.Choice.{cases}
 use Rattle.vocabulary.proofs.Range.{clash}
 use Rattle.hex_digits.specs.Hex.{hex_digit, hex_value, hex}
 use Rattle.hex_digits.proofs.Digits.{value_digit}
-use Rattle.sheet.specs.declared.Line.{Line}
-use Rattle.sheet.specs.declared.Line.TheVariants.{Has, Missing}
+use Rattle.sheet.specs.Sheet.{Line}
+use Rattle.std.specs.Prelude.{Some, None}
 use Rattle.sheet.specs.Sheet.{keys, key_at, front, required, line_text, starts, line_of, text_from}
 use Rattle.sheet.specs.Grammar.{Lawful}
 use Rattle.sheet.proofs.Starts.{starts_at}
@@ -59,11 +59,11 @@ apart j k t v w f g h i s u =
     (λ c. let y = says_colour k t w (ltb-false k 9 c) i u in sym x.1 ∙ y.1))
 
 -- an empty text has no line
-nothing_by : (k : ℕ) (x : Line) → line_of (key_at k) [] ≡ x → x ≡ Missing
-nothing_by k (Has v) e = absurd (let z : ⊥ = omega (arith, line_fits (key_at k) [] v e, line_length (key_at k) v) in z)
-nothing_by k Missing e = refl
+nothing_by : (k : ℕ) (x : Line) → line_of (key_at k) [] ≡ x → x ≡ None
+nothing_by k (Some v) e = absurd (let z : ⊥ = omega (arith, line_fits (key_at k) [] v e, line_length (key_at k) v) in z)
+nothing_by k None e = refl
 
-pub nothing : (k : ℕ) → line_of (key_at k) [] ≡ Missing
+pub nothing : (k : ℕ) → line_of (key_at k) [] ≡ None
 nothing k = nothing_by k (line_of (key_at k) []) refl
 
 -- a key that may be missing is an entry's
@@ -73,17 +73,17 @@ entry_by k e =
 
 -- an entry's line does not stand where the lines of later keys do
 module _ (k : ℕ) (h : 5 ≤ k) where
-  other_by : (i v : ℕ) (t : List ℕ) (x : Line) → k < i → i < keys → line_of (key_at i) t ≡ Has v
-      → line_of (key_at k) t ≡ x → x ≡ Missing
-  other_by i v t (Has u) g l e f =
+  other_by : (i v : ℕ) (t : List ℕ) (x : Line) → k < i → i < keys → line_of (key_at i) t ≡ Some v
+      → line_of (key_at k) t ≡ x → x ≡ None
+  other_by i v t (Some u) g l e f =
       let same = apart k i t u v h (omega arith) (omega arith) l (line_starts _ t u f) (line_starts _ t v e) in
       absurd (let z : ⊥ = omega arith in z)
-  other_by i v t Missing g l e f = refl
+  other_by i v t None g l e f = refl
 
   pub behind : (l : List Line) (i : ℕ) → k < i → i + length l ≤ keys → Lawful i l
-      → line_of (key_at k) (text_from i l) ≡ Missing
+      → line_of (key_at k) (text_from i l) ≡ None
   unfolding text_from
   behind [] i g b f = nothing k
-  behind (Has v ∷ l) i g b (fits, taken, f) =
+  behind (Some v ∷ l) i g b (fits, taken, f) =
       other_by i v _ _ g (omega arith) (line_there (key_at i) v (text_from (i + 1) l) fits taken) refl
-  behind (Missing ∷ l) i g b (_, f) = behind l (i + 1) (omega arith) (omega arith) f
+  behind (None ∷ l) i g b (_, f) = behind l (i + 1) (omega arith) (omega arith) f

@@ -10,8 +10,8 @@ use lib.ListN.{length, drop, replicate, length-replicate}
 use borrow.Author.Tests.{ltb-true, ltb-false}
 use Rattle.vocabulary.specs.Choice.{pick}
 use Rattle.vocabulary.proofs.Choice.{cases}
-use Rattle.sheet.specs.declared.Line.{Line}
-use Rattle.sheet.specs.declared.Line.TheVariants.{Has, Missing}
+use Rattle.sheet.specs.Sheet.{Line}
+use Rattle.std.specs.Prelude.{Some, None}
 use Rattle.sheet.specs.Sheet.{key_at, width, takes, line_text, line_of, Reading, good, bad, led}
 use Rattle.sheet.specs.Sheet.{ended, read_from, text_from}
 use Rattle.sheet.specs.Grammar.{Lawful, first_lines}
@@ -27,7 +27,7 @@ takes_zero k =
     (λ b. firsts (λ k key. takes key 0 ≡ true) refl refl refl refl refl k (ltb-true k 5 b))
     (λ b. takes_entry k 0 (ltb-false k 5 b))
 
-zeros : (more k : ℕ) → Lawful k (replicate more (Has 0))
+zeros : (more k : ℕ) → Lawful k (replicate more (Some 0))
 zeros zero k = tt
 zeros (suc more) k = (omega (arith, one-le-pow (width (key_at k)) 16 (omega arith)), takes_zero k, zeros more (k + 1))
 
@@ -59,10 +59,10 @@ here : (more k n m : ℕ) (t : List ℕ) → n ≡ m → Past more k n m t
 here more k n m t e = record {
   past = 0;
   number = omega arith;
-  lines = replicate more (Has 0);
-  long = length-replicate more (Has 0);
+  lines = replicate more (Some 0);
+  long = length-replicate more (Some 0);
   lawful = zeros more k;
-  same = first_none (text_from k (replicate more (Has 0))) ∙ sym (first_none t);
+  same = first_none (text_from k (replicate more (Some 0))) ∙ sym (first_none t);
 }
 
 ended_bad : (k n m : ℕ) (t : List ℕ) → ended t n ≡ bad m → Past 0 k n m t
@@ -73,13 +73,13 @@ module _ (more k n m : ℕ) (t : List ℕ)
     (on : (n : ℕ) (t : List ℕ) → read_from more (k + 1) n t ≡ bad m → Past more (k + 1) n m t) where
   step : (x : Line) → line_of (key_at k) t ≡ x → read_from (suc more) k n t ≡ bad m → Past (suc more) k n m t
   unfolding read_from text_from
-  step (Has v) e w =
-      let r = on _ _ (led_bad (Has v) _ m (rw e at w)) in
+  step (Some v) e w =
+      let r = on _ _ (led_bad (Some v) _ m (rw e at w)) in
       let line = line_text (key_at k) v in
       record {
         past = suc r.past;
         number = omega (arith, r.number);
-        lines = Has v ∷ r.lines;
+        lines = Some v ∷ r.lines;
         long = ap suc r.long;
         lawful = (line_below (key_at k) t v e, line_taken (key_at k) t v e, r.lawful);
         same =
@@ -87,15 +87,15 @@ module _ (more k n m : ℕ) (t : List ℕ)
             ∙ sym (first_line (key_at k) v r.past (drop (length line) t))
             ∙ ap (λ (l : List ℕ). first_lines l (suc r.past)) (line_is (key_at k) t v e);
       }
-  step Missing e w =
+  step None e w =
       missing_bad _ n m _ _ (rw e at w)
       (λ b f. here (suc more) k n m t f)
       (λ b f.
-      let r = on n t (led_bad Missing _ m f) in
+      let r = on n t (led_bad None _ m f) in
       record {
         past = r.past;
         number = r.number;
-        lines = Missing ∷ r.lines;
+        lines = None ∷ r.lines;
         long = ap suc r.long;
         lawful = (b, r.lawful);
         same = r.same;

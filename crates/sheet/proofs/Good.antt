@@ -5,8 +5,8 @@ use mathlib.Core.Bool.{Bool, true, false}
 use mathlib.Core.List.{List, [], ◌∷◌}
 use native.Mathlib.Omega.{arith}
 use Rattle.vocabulary.specs.Choice.{pick}
-use Rattle.sheet.specs.declared.Line.{Line}
-use Rattle.sheet.specs.declared.Line.TheVariants.{Has, Missing}
+use Rattle.sheet.specs.Sheet.{Line}
+use Rattle.std.specs.Prelude.{Some, None}
 use Rattle.sheet.specs.Sheet.{keys, key_at, line_of, Reading, good, bad, led}
 use Rattle.sheet.specs.Sheet.{ended, read_from, sheet_of, text_from}
 use Rattle.sheet.specs.Grammar.{Sound}
@@ -38,8 +38,8 @@ module _ (more k n : ℕ) (t : List ℕ) (l : List Line)
     (on : (n : ℕ) (t : List ℕ) (l : List Line) → read_from more (k + 1) n t ≡ good l → Sound more (k + 1) t l) where
   step : (x : Line) → line_of (key_at k) t ≡ x → read_from (suc more) k n t ≡ good l → Sound (suc more) k t l
   unfolding read_from text_from
-  step (Has v) e w =
-      let led = led_good (Has v) (read_from more (k + 1) _ _) l (rw e at w) in
+  step (Some v) e w =
+      let led = led_good (Some v) (read_from more (k + 1) _ _) l (rw e at w) in
       let r = on _ _ led.rest led.is in
       rw (sym led.all)
       (record {
@@ -47,9 +47,9 @@ module _ (more k n : ℕ) (t : List ℕ) (l : List Line)
         lawful = (line_below (key_at k) t v e, line_taken (key_at k) t v e, r.lawful);
         text = rw r.text (line_is (key_at k) t v e);
       })
-  step Missing e w =
+  step None e w =
       let miss = may_miss _ n _ l (rw e at w) in
-      let led = led_good Missing _ l miss.1 in
+      let led = led_good None _ l miss.1 in
       let r = on _ _ led.rest led.is in
       rw (sym led.all) (record { long = ap suc r.long; lawful = (miss.0, r.lawful); text = r.text })
 

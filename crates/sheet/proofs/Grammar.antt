@@ -6,7 +6,7 @@ use native.Mathlib.Omega.{arith}
 use lib.Dec.{ltb}
 use borrow.Author.Tests.{ltb-true, ltb-false}
 use Rattle.vocabulary.proofs.Choice.{cases}
-use Rattle.sheet.specs.declared.Line.{Line}
+use Rattle.sheet.specs.Sheet.{Line}
 use Rattle.sheet.specs.Sheet.{keys, Reading, good, bad, sheet_of, text_from}
 use Rattle.sheet.specs.Grammar.{IsSheet, first_lines, Begins, BadAt, ReadsSheets}
 use Rattle.sheet.proofs.Back.{lawful_good}

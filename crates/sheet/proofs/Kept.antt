@@ -7,8 +7,8 @@ use lib.Dec.{ltb}
 use borrow.Author.Tests.{lt-ltb, le-ltb, ltb-true, ltb-false}
 use Rattle.vocabulary.specs.Choice.{pick}
 use Rattle.vocabulary.proofs.Choice.{cases}
-use Rattle.sheet.specs.declared.Line.{Line}
-use Rattle.sheet.specs.declared.Line.TheVariants.{Has, Missing}
+use Rattle.sheet.specs.Sheet.{Line}
+use Rattle.std.specs.Prelude.{Some, None}
 use Rattle.sheet.specs.Sheet.{key_at, width, Reading, good, bad, bad_line, sheet_of}
 use Rattle.sheet.specs.Grammar.{Lawful}
 use Rattle.sheet.specs.Kept.{number_for, kept_of, line_for}
@@ -17,11 +17,11 @@ use Rattle.sheet.proofs.Good.{sound}
 use Rattle.sheet.proofs.Grammar.{grammar}
 
 module _ (x : ℕ) where
-  pub kept_missing : 4096 ≤ x → line_for x ≡ Missing
+  pub kept_missing : 4096 ≤ x → line_for x ≡ None
   unfolding line_for pick
   kept_missing h = rw (le-ltb x 4096 h)
 
-  pub kept_has : x < 4096 → line_for x ≡ Has x
+  pub kept_has : x < 4096 → line_for x ≡ Some x
   unfolding line_for pick
   kept_has h = rw (lt-ltb x 4096 h)
 
@@ -39,10 +39,10 @@ low_value k v h =
 -- so lawful lines come back
 lines_back : (k : ℕ) (l : List Line) → Lawful k l → map line_for (map number_for l) ≡ l
 lines_back k [] h = refl
-lines_back k (Has v ∷ l) (fits, _, h) =
-    rw (kept_has v (low_value k v fits)) (ap (λ (m : List Line). Has v ∷ m) (lines_back (k + 1) l h))
-lines_back k (Missing ∷ l) (_, h) =
-    rw (kept_missing 4096 (omega arith)) (ap (λ (m : List Line). Missing ∷ m) (lines_back (k + 1) l h))
+lines_back k (Some v ∷ l) (fits, _, h) =
+    rw (kept_has v (low_value k v fits)) (ap (λ (m : List Line). Some v ∷ m) (lines_back (k + 1) l h))
+lines_back k (None ∷ l) (_, h) =
+    rw (kept_missing 4096 (omega arith)) (ap (λ (m : List Line). None ∷ m) (lines_back (k + 1) l h))
 
 -- what a text is, by what is kept of it: the line's number, 0 where there is none, and the numbers
 module _ (t : List ℕ) (n : ℕ) (line : n ≡ bad_line (sheet_of t)) where

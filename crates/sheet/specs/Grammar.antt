@@ -3,8 +3,8 @@
 -- (proofs/Grammar.antt): `sheet_of` meets `ReadsSheets`; and no other reading does (`one_reading`).
 use Rattle.std.specs.Prelude.{ℕ, zero, suc, ◌+◌, ◌-◌, ◌^◌, ◌<◌, ◌≤◌, ◌≡◌, true, false, List, [], ◌∷◌, eqb, length}
 use Rattle.vocabulary.specs.Choice.{pick}
-use Rattle.sheet.specs.declared.Line.{Line}
-use Rattle.sheet.specs.declared.Line.TheVariants.{Has, Missing}
+use Rattle.sheet.specs.Sheet.{Line}
+use Rattle.std.specs.Prelude.{Some, None}
 use Rattle.sheet.specs.Sheet.{keys, key_at, width, takes, required, Reading, good, bad, text_from}
 
 -- ---- A good sheet
@@ -12,8 +12,8 @@ use Rattle.sheet.specs.Sheet.{keys, key_at, width, takes, required, Reading, goo
 -- what the lines from key k on may be: a value that the key takes, of no more digits; or missing, where it may be
 abbrev pub Lawful : ℕ → List Line → Type 0
 Lawful k [] = Unit
-Lawful k (Has v ∷ l) = (v < 16 ^ width (key_at k)) × (takes (key_at k) v ≡ true) × Lawful (k + 1) l
-Lawful k (Missing ∷ l) = (required (key_at k) ≡ false) × Lawful (k + 1) l
+Lawful k (Some v ∷ l) = (v < 16 ^ width (key_at k)) × (takes (key_at k) v ≡ true) × Lawful (k + 1) l
+Lawful k (None ∷ l) = (required (key_at k) ≡ false) × Lawful (k + 1) l
 
 -- the text t is that of lawful lines l, one for each of the `more` keys from key k on
 pub record Sound (more k : ℕ) (t : List ℕ) (l : List Line) : Type 0 where

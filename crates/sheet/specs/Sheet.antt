@@ -2,16 +2,15 @@
 -- after each. The grammar is `sheet_of`, from bytes to what the sheet says or the number of its first bad or missing
 -- line; the writer is `write`. Both share one definition of a line's text.
 use Rattle.std.specs.Prelude.{ℕ, zero, suc, ◌+◌, ◌-◌, ◌*◌, ◌/◌, ◌%◌, ◌≡◌, Bool, true, false, ◌&&◌, ◌||◌}
-use Rattle.std.specs.Prelude.{List, [], ◌∷◌, ◌++◌, map, eqb, ltb, length, get_or, take, drop}
+use Rattle.std.specs.Prelude.{List, [], ◌∷◌, ◌++◌, map, eqb, ltb, length, get_or, take, drop, Option, Some, None}
 use Rattle.std.specs.Int.Bits.{bit_and}
 use Rattle.vocabulary.specs.Choice.{pick}
-use Rattle.vocabulary.specs.Refusal.{Row, ◌when◌, lent_length, out_of_range, over_fifteen, short_buffer, refusal_of}
+use Rattle.vocabulary.specs.Refusal.{Row, ◌when◌, refusal_of}
+use Rattle.vocabulary.specs.declared.Refusal.TheVariants.{LentLength, OutOfRange, OverFifteen, ShortBuffer}
 use Rattle.vocabulary.specs.Outcome.{Outcome, accepting, refusing, answered}
 use Rattle.vocabulary.specs.Reply.{Reply, decoded, telling as tellingOf}
 use Rattle.hex_digits.specs.Hex.{hex, number}
 use Rattle.hd153108.specs.Hd153108.{Chip, reserved_bits, short, outside}
-use Rattle.sheet.specs.declared.Line.{Line}
-use Rattle.sheet.specs.declared.Line.TheVariants.{Has, Missing}
 use Rattle.sheet.specs.declared.Answer.{Answer}
 use Rattle.sheet.specs.declared.Answer.TheVariants.{Done, Refused}
 
@@ -77,6 +76,10 @@ required (c e) = false
 
 -- ---- A line
 
+-- a key's line: there with its value, or missing
+abbrev pub Line : Type 0
+Line = Option ℕ
+
 -- a key's line with the value v, its LF too
 unfoldable pub line_text : Key → ℕ → List ℕ
 line_text key v = front key ++ hex (width key) v ++ 10 ∷ []
@@ -94,7 +97,7 @@ spelt key t = number (width key) (length (front key)) t
 -- A key's line at the start of a text: there, with its value, exactly where the text starts with the line of that
 -- value and the key takes it (proofs/Lines.antt, `line_there` and `line_is`).
 unfoldable pub line_of : Key → List ℕ → Line
-line_of key t = pick (starts (line_text key (spelt key t)) t && takes key (spelt key t)) (Has (spelt key t)) Missing
+line_of key t = pick (starts (line_text key (spelt key t)) t && takes key (spelt key t)) (Some (spelt key t)) None
 
 -- ---- The grammar
 
@@ -116,8 +119,8 @@ ended (b ∷ t) n = bad n
 
 -- on with a line's value, or without it
 abbrev pub onward : Line → (ℕ → Reading) → Reading → Reading
-onward (Has v) with without = with v
-onward Missing with without = without
+onward (Some v) with without = with v
+onward None with without = without
 
 -- The last `more` keys, from key k on, in the text t, which starts at line n. A key's line is there and the rest
 -- follows it; or the key is missing, which is bad where it is required. So the keys come in order and once each.
@@ -125,8 +128,8 @@ unfoldable pub read_from : ℕ → ℕ → ℕ → List ℕ → Reading
 read_from zero k n t = ended t n
 read_from (suc more) k n t =
     onward (line_of (key_at k) t)
-    (λ v. led (Has v) (read_from more (k + 1) (n + 1) (drop (length (line_text (key_at k) v)) t)))
-    (pick (required (key_at k)) (bad n) (led Missing (read_from more (k + 1) n t)))
+    (λ v. led (Some v) (read_from more (k + 1) (n + 1) (drop (length (line_text (key_at k) v)) t)))
+    (pick (required (key_at k)) (bad n) (led None (read_from more (k + 1) n t)))
 
 abbrev pub sheet_of : List ℕ → Reading
 sheet_of t = read_from keys 0 1 t
@@ -185,13 +188,13 @@ values a =
 
 -- "The writer always lists all"
 abbrev pub chip_lines : Chip → List Line
-chip_lines a = map Has (values a)
+chip_lines a = map Some (values a)
 
 -- the text of lines from key k on
 unfoldable pub text_from : ℕ → List Line → List ℕ
 text_from k [] = []
-text_from k (Has v ∷ l) = line_text (key_at k) v ++ text_from (k + 1) l
-text_from k (Missing ∷ l) = text_from (k + 1) l
+text_from k (Some v ∷ l) = line_text (key_at k) v ++ text_from (k + 1) l
+text_from k (None ∷ l) = text_from (k + 1) l
 
 abbrev pub text_of : Chip → List ℕ
 text_of a = text_from 0 (chip_lines a)
@@ -211,10 +214,10 @@ over_fifteen_in (x ∷ t) = ltb 15 x || over_fifteen_in t
 -- when the writer is refused
 abbrev pub write_refusals : Chip → List ℕ → List Row
 write_refusals a out =
-    (lent_length when short a) ∷
-    (out_of_range when outside a) ∷
-    (over_fifteen when (over_fifteen_in a.colours || over_fifteen_in a.overlays)) ∷
-    (short_buffer when ltb (length out) (length (text_of a))) ∷
+    (LentLength when short a) ∷
+    (OutOfRange when outside a) ∷
+    (OverFifteen when (over_fifteen_in a.colours || over_fifteen_in a.overlays)) ∷
+    (ShortBuffer when ltb (length out) (length (text_of a))) ∷
     []
 
 -- its whole outcome: the count is of bytes, and what is left is the buffer

@@ -9,13 +9,6 @@
 
 ghost use Rattle.sheet.specs.Sheet.{Tells};
 
-// A key's line: there with its value, or missing.
-#[derive(Clone, Copy)]
-pub enum Line {
-    Has(u16),
-    Missing,
-}
-
 // What a call on a buffer answers: how much it wrote; or its refusal, and the line that a malformed sheet's tells.
 #[derive(Clone, Copy)]
 pub enum Answer {

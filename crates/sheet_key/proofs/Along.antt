@@ -8,8 +8,8 @@ use lib.ListN.{length, take, drop, replicate, length-drop}
 use lib.Seq.{drop-drop, take_all}
 use borrow.Author.Tests.{ltb-true, ltb-false, eqb-true, eqb-false}
 use Rattle.vocabulary.proofs.Choice.{cases}
-use Rattle.sheet.specs.declared.Line.{Line}
-use Rattle.sheet.specs.declared.Line.TheVariants.{Has, Missing}
+use Rattle.sheet.specs.Sheet.{Line}
+use Rattle.std.specs.Prelude.{Some, None}
 use Rattle.sheet.specs.Sheet.{keys, key_at, front, width, line_text, line_of, Reading, bad, led, read_from}
 use Rattle.sheet.proofs.Texts.{line_length}
 use Rattle.sheet.proofs.Lines.{line_fits, line_below}
@@ -20,19 +20,19 @@ use Rattle.sheet_key.proofs.Leads.{leads_append, leads_bad, has, stop, skip}
 use Rattle.sheet_key.proofs.Naming.{named_first, other_missing}
 
 -- a value is below 4,096
-below : (k v : ℕ) (t : List ℕ) → line_of (key_at k) t ≡ Has v → v < 4096
+below : (k v : ℕ) (t : List ℕ) → line_of (key_at k) t ≡ Some v → v < 4096
 below k v t e = low_value k v (line_below (key_at k) t v e)
 
 -- a line that is read
 module _ (t : List ℕ) (due k v n : ℕ) (from : due ≤ k) (to : k < keys) (is : k ≡ named t due)
-    (e : line_of (key_at k) t ≡ Has v) where
+    (e : line_of (key_at k) t ≡ Some v) where
   abbrev rest : Reading
   rest = read_from (keys - (k + 1)) (k + 1) (n + 1) (drop (length (line_text (key_at k) v)) t)
 
-  here : read_from (keys - k) k n t ≡ led (Has v) rest
+  here : read_from (keys - k) k n t ≡ led (Some v) rest
   here = let s : keys - k ≡ suc (keys - (k + 1)) = omega arith in rw s (has k n t (keys - (k + 1)) v e)
 
-  gap : read_from (keys - due) due n t ≡ leads (replicate (k - due) Missing) (read_from (keys - k) k n t)
+  gap : read_from (keys - due) due n t ≡ leads (replicate (k - due) None) (read_from (keys - k) k n t)
   unfolding leads
   gap =
       cases (ltb due 5)
@@ -52,8 +52,8 @@ module _ (t : List ℕ) (due k v n : ℕ) (from : due ≤ k) (to : k < keys) (is
   pub along : read_from (keys - due) due n t ≡ leads (after (k - due) v) rest
   unfolding leads
   along =
-      gap ∙ ap (leads (replicate (k - due) Missing)) here
-      ∙ sym (leads_append (replicate (k - due) Missing) (Has v ∷ []) rest)
+      gap ∙ ap (leads (replicate (k - due) None)) here
+      ∙ sym (leads_append (replicate (k - due) None) (Some v ∷ []) rest)
 
 -- a line that is bad
 ended_at : (t : List ℕ) (k n : ℕ) → 0 < length t → read_from 0 k n t ≡ bad n
@@ -62,8 +62,8 @@ ended_at [] k n h = absurd (let z : ⊥ = omega arith in z)
 ended_at (b ∷ t) k n h = refl
 
 module _ (t : List ℕ) (due n : ℕ) (some : 0 < length t) (most : due ≤ keys)
-    (none : named t due < keys → due ≤ named t due → line_of (key_at (named t due)) t ≡ Missing) where
-  missing : 5 ≤ due → (j : ℕ) → due ≤ j → j < keys → line_of (key_at j) t ≡ Missing
+    (none : named t due < keys → due ≤ named t due → line_of (key_at (named t due)) t ≡ None) where
+  missing : 5 ≤ due → (j : ℕ) → due ≤ j → j < keys → line_of (key_at j) t ≡ None
   missing d j g h =
       cases (eqb (named t due) j)
       (λ b. let s = eqb-true (named t due) j b in rw (sym s) (none (rw s h) (rw s g)))
@@ -76,15 +76,15 @@ module _ (t : List ℕ) (due n : ℕ) (some : 0 < length t) (most : due ≤ keys
       let g = ltb-true due 5 b in
       let s : keys - due ≡ suc (keys - (due + 1)) = omega arith in
       let f = sym (named_first t due g) in
-      let m : line_of (key_at due) t ≡ Missing = rw f at (none (rw f (omega arith)) (rw f (omega arith))) in
+      let m : line_of (key_at due) t ≡ None = rw f at (none (rw f (omega arith)) (rw f (omega arith))) in
       rw s (stop due n t (keys - (due + 1)) m g))
       (λ b.
       let g = ltb-false due 5 b in
       let s : keys - due ≡ (keys - due) + 0 = omega arith in
       rw s
       (skip (keys - due) 0 due n t g (λ j l m. missing g j l (omega arith))
-      ∙ ap (leads (replicate (keys - due) Missing)) (ended_at t (due + (keys - due)) n some)
-      ∙ leads_bad (replicate (keys - due) Missing) n))
+      ∙ ap (leads (replicate (keys - due) None)) (ended_at t (due + (keys - due)) n some)
+      ∙ leads_bad (replicate (keys - due) None) n))
 
 -- the rest of a text, as it is lent
 pub rest_of : (s : List ℕ) (at : ℕ) → take (length s - at) (drop at s) ≡ drop at s
@@ -96,7 +96,7 @@ module _ (text : List ℕ) (at due : ℕ) {t : List ℕ} {k : ℕ} (rest : t ≡
   some : 0 < length t
   some = rw rest (simp length-drop (omega arith))
 
-  bad_by : (named t due < keys → due ≤ named t due → line_of (key_at (named t due)) t ≡ Missing) → Right text at due Bad
+  bad_by : (named t due < keys → due ≤ named t due → line_of (key_at (named t due)) t ≡ None) → Right text at due Bad
   unfolding on_from
   bad_by none = (tt, λ n. rw (sym rest) (bad_line_lem t due n some most none))
 
@@ -106,14 +106,14 @@ module _ (text : List ℕ) (at due : ℕ) {t : List ℕ} {k : ℕ} (rest : t ≡
   pub high : keys ≤ k → Right text at due Bad
   high h = bad_by (λ p q. absurd (let z : ⊥ = omega arith in z))
 
-  pub wrong : {x : Line} → x ≡ line_of (key_at k) t → x ≡ Missing → Right text at due Bad
+  pub wrong : {x : Line} → x ≡ line_of (key_at k) t → x ≡ None → Right text at due Bad
   wrong e f = bad_by (λ p q. rw is at (sym e ∙ f))
 
-  pub found : {x : Line} {v size : ℕ} → due ≤ k → k < keys → x ≡ line_of (key_at k) t → x ≡ Has v
+  pub found : {x : Line} {v size : ℕ} → due ≤ k → k < keys → x ≡ line_of (key_at k) t → x ≡ Some v
       → size ≡ length (front (key_at k)) + width (key_at k) + 1 → Right text at due (At k v (at + size))
   unfolding on_from
   found {v = v} {size} g h x f s =
-      let e : line_of (key_at k) t ≡ Has v = sym x ∙ f in
+      let e : line_of (key_at k) t ≡ Some v = sym x ∙ f in
       let long : size ≡ length (line_text (key_at k) v) = omega (arith, line_length (key_at k) v) in
       let fits = line_fits (key_at k) t v e in
       let all : length t ≡ length text - at = ap length rest ∙ length-drop at text in (

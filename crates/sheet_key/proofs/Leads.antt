@@ -5,8 +5,8 @@ use mathlib.Core.List.{List, [], ◌∷◌, ◌++◌}
 use native.Mathlib.Omega.{arith}
 use lib.ListN.{length, drop, replicate}
 use Rattle.vocabulary.proofs.Choice.{picks_first, picks_second}
-use Rattle.sheet.specs.declared.Line.{Line}
-use Rattle.sheet.specs.declared.Line.TheVariants.{Has, Missing}
+use Rattle.sheet.specs.Sheet.{Line}
+use Rattle.std.specs.Prelude.{Some, None}
 use Rattle.sheet.specs.Sheet.{key_at, line_of, line_text, Reading, good, bad, led, read_from}
 use Rattle.sheet.proofs.Texts.{required_first, required_entry}
 use Rattle.sheet_key.specs.Reader.{leads}
@@ -28,14 +28,14 @@ leads_good (x ∷ l) m = ap (led x) (leads_good l m)
 
 -- one key on, by its line
 module _ (k n : ℕ) (t : List ℕ) (more : ℕ) where
-  pub has : (v : ℕ) → line_of (key_at k) t ≡ Has v
+  pub has : (v : ℕ) → line_of (key_at k) t ≡ Some v
       → read_from (suc more) k n t
-      ≡ led (Has v) (read_from more (k + 1) (n + 1) (drop (length (line_text (key_at k) v)) t))
+      ≡ led (Some v) (read_from more (k + 1) (n + 1) (drop (length (line_text (key_at k) v)) t))
   unfolding read_from
   has v e = rw e
 
-  module _ (e : line_of (key_at k) t ≡ Missing) where
-    pub pass : 5 ≤ k → read_from (suc more) k n t ≡ led Missing (read_from more (k + 1) n t)
+  module _ (e : line_of (key_at k) t ≡ None) where
+    pub pass : 5 ≤ k → read_from (suc more) k n t ≡ led None (read_from more (k + 1) n t)
     unfolding read_from
     pass h = rw e (picks_second (bad n) _ (required_entry k h))
 
@@ -44,8 +44,8 @@ module _ (k n : ℕ) (t : List ℕ) (more : ℕ) where
     stop h = rw e (picks_first (bad n) _ (required_first k h))
 
 -- entries that are missing are passed over
-pub skip : (m r k n : ℕ) (t : List ℕ) → 5 ≤ k → ((j : ℕ) → k ≤ j → j < k + m → line_of (key_at j) t ≡ Missing)
-    → read_from (m + r) k n t ≡ leads (replicate m Missing) (read_from r (k + m) n t)
+pub skip : (m r k n : ℕ) (t : List ℕ) → 5 ≤ k → ((j : ℕ) → k ≤ j → j < k + m → line_of (key_at j) t ≡ None)
+    → read_from (m + r) k n t ≡ leads (replicate m None) (read_from r (k + m) n t)
 unfolding leads
 skip zero r k n t h none = let a : 0 + r ≡ r = omega arith in let b : k + 0 ≡ k = omega arith in rw (a, b)
 skip (suc m) r k n t h none =
@@ -53,4 +53,4 @@ skip (suc m) r k n t h none =
     let b : k + suc m ≡ k + 1 + m = omega arith in
     rw (a, b)
     (pass k n t (m + r) (none k (omega arith) (omega arith)) h
-    ∙ ap (led Missing) (skip m r (k + 1) n t (omega arith) (λ j g l. none j (omega arith) (omega arith))))
+    ∙ ap (led None) (skip m r (k + 1) n t (omega arith) (λ j g l. none j (omega arith) (omega arith))))

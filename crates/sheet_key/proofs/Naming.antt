@@ -8,8 +8,8 @@ use lib.ListN.{get_or}
 use borrow.Author.Tests.{lt-ltb, le-ltb, ltb-true, ltb-false, eq-eqb, ne_eqb}
 use Rattle.vocabulary.specs.Choice.{pick}
 use Rattle.vocabulary.proofs.Choice.{cases, picks_first}
-use Rattle.sheet.specs.declared.Line.{Line}
-use Rattle.sheet.specs.declared.Line.TheVariants.{Has, Missing}
+use Rattle.sheet.specs.Sheet.{Line}
+use Rattle.std.specs.Prelude.{Some, None}
 use Rattle.hex_digits.specs.Hex.{hex_value}
 use Rattle.sheet.specs.Sheet.{keys, key_at, line_text, starts, line_of}
 use Rattle.sheet.proofs.Apart.{says_overlay, says_colour}
@@ -46,16 +46,16 @@ module _ (k : ℕ) (t : List ℕ) (v due : ℕ) (d : 5 ≤ due) where
   unfolding named pick
   named_c g h s = let says = says_colour k t v g h s in rw (le-ltb due 5 d, says.0) says.1
 
-  named_is : 5 ≤ k → k < keys → line_of (key_at k) t ≡ Has v → named t due ≡ k
+  named_is : 5 ≤ k → k < keys → line_of (key_at k) t ≡ Some v → named t due ≡ k
   named_is g h e =
       let s = line_starts (key_at k) t v e in
       cases (ltb k 9) (λ b. named_o g (ltb-true k 9 b) s) (λ b. named_c (ltb-false k 9 b) h s)
 
 -- so every other key is missing there
 module _ (k : ℕ) (t : List ℕ) (due : ℕ) (d : 5 ≤ due) (g : 5 ≤ k) (h : k < keys) (n : named t due ≡ k → ⊥) where
-  other_by : (x : Line) → line_of (key_at k) t ≡ x → x ≡ Missing
-  other_by (Has v) e = absurd (n (named_is k t v due d g h e))
-  other_by Missing e = refl
+  other_by : (x : Line) → line_of (key_at k) t ≡ x → x ≡ None
+  other_by (Some v) e = absurd (n (named_is k t v due d g h e))
+  other_by None e = refl
 
-  pub other_missing : line_of (key_at k) t ≡ Missing
+  pub other_missing : line_of (key_at k) t ≡ None
   other_missing = other_by (line_of (key_at k) t) refl

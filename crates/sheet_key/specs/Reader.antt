@@ -3,8 +3,8 @@ use Rattle.std.specs.Prelude.{ℕ, ◌+◌, ◌-◌, ◌*◌, ◌≤◌, ◌<◌
 use Rattle.std.specs.Prelude.{drop, replicate}
 use Rattle.vocabulary.specs.Choice.{pick}
 use Rattle.hex_digits.specs.Hex.{hex_value}
-use Rattle.sheet.specs.declared.Line.{Line}
-use Rattle.sheet.specs.declared.Line.TheVariants.{Has, Missing}
+use Rattle.sheet.specs.Sheet.{Line}
+use Rattle.std.specs.Prelude.{Some, None}
 use Rattle.sheet.specs.Sheet.{keys, Reading, bad, led, read_from}
 use Rattle.sheet_key.specs.declared.Found.{Found}
 use Rattle.sheet_key.specs.declared.Found.TheVariants.{At, Bad}
@@ -24,7 +24,7 @@ leads (x ∷ l) r = led x (leads l r)
 
 -- so many keys missing, and then a key's line
 abbrev pub after : ℕ → ℕ → List Line
-after missing v = replicate missing Missing ++ Has v ∷ []
+after missing v = replicate missing None ++ Some v ∷ []
 
 -- what the answer of line n makes of the sheet: it goes on behind the line, or it is refused, 8, with the line's
 -- number

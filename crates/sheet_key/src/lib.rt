@@ -8,7 +8,6 @@ ghost use Rattle.std.specs.Prelude.{◌≡◌, ◌≤◌, ◌<◌, length};
 ghost use Rattle.sheet.specs.Sheet.{keys};
 ghost use Rattle.sheet_key.specs.Reader.{named, Right};
 
-use sheet::Line;
 
 // What a line says: its key, its value and the place behind it; or it is bad.
 #[derive(Clone, Copy)]
@@ -48,7 +47,7 @@ pub fn line_at(text: &[u8], at: usize, due: u16) -> Found
     if 265 <= k {
         return Found::Bad;
     }
-    let Line::Has(v) = sheet_line::line_of(&text[at..], k) else {
+    let Some(v) = sheet_line::line_of(&text[at..], k) else {
         return Found::Bad;
     };
     Found::At(k, v, at + sheet_line::line_len(k))

@@ -6,7 +6,7 @@ use mathlib.Core.List.{List}
 use lib.ListN.{length}
 use Rattle.vocabulary.specs.Choice.{pick}
 use Rattle.hex_digits.specs.Hex.{hex, number}
-use Rattle.sheet.specs.declared.Line.TheVariants.{Has, Missing}
+use Rattle.std.specs.Prelude.{Some, None}
 use Rattle.sheet.specs.Sheet.{key_at, front, width, takes, line_text, starts, spelt, line_of}
 use Rattle.sheet.proofs.Texts.{key_o, key_c}
 
@@ -30,15 +30,15 @@ module _ (k : ℕ) (t : List ℕ) {v w i : ℕ} {word : List ℕ} {s : Bool} (re
   is : v ≡ spelt (key_at k) t
   is = rw (read, wide, from)
 
-  pub line_other : s ≡ false → Missing ≡ line_of (key_at k) t
+  pub line_other : s ≡ false → None ≡ line_of (key_at k) t
   unfolding line_of pick
   line_other f = rw (sym is, sym same, sym tried, f)
 
   module _ {b : Bool} (takes_it : b ≡ takes (key_at k) v) (f : s ≡ true) where
-    pub line_has : b ≡ true → Has v ≡ line_of (key_at k) t
+    pub line_has : b ≡ true → Some v ≡ line_of (key_at k) t
     unfolding line_of pick
     line_has g = rw (sym is, sym same, sym tried, f, sym takes_it, g)
 
-    pub line_not_taken : b ≡ false → Missing ≡ line_of (key_at k) t
+    pub line_not_taken : b ≡ false → None ≡ line_of (key_at k) t
     unfolding line_of pick
     line_not_taken g = rw (sym is, sym same, sym tried, f, sym takes_it, g)

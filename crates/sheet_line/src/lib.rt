@@ -8,7 +8,6 @@
 ghost use Rattle.std.specs.Prelude.{◌≡◌, ◌+◌, ◌<◌, length};
 ghost use Rattle.sheet.specs.Sheet.{key_at, front, width, line_of};
 
-use sheet::Line;
 
 // How many bytes stand before a key's digits.
 fn front_len(k: u16) -> usize
@@ -45,7 +44,7 @@ pub fn line_len(k: u16) -> usize
 }
 
 // A key's line at the start of a text.
-pub fn line_of(t: &[u8], k: u16) -> Line
+pub fn line_of(t: &[u8], k: u16) -> Option<u16>
     ensures { result ≡ line_of (key_at k) t.now }
 {
     let v = hex_number::spelt_word(t, front_len(k), digit_count(k));
@@ -53,10 +52,10 @@ pub fn line_of(t: &[u8], k: u16) -> Line
     let bytes = l.bytes;
     let n = l.len;
     if !sheet_fits::begins(t, &bytes[..n]) {
-        return Line::Missing;
+        return None;
     }
     if sheet_fits::takes(k, v) {
-        return Line::Has(v);
+        return Some(v);
     }
-    Line::Missing
+    None
 }

@@ -7,7 +7,7 @@ use native.Mathlib.Omega.{arith}
 use lib.ListN.{length, get_or, drop, drop_of_length-le}
 use lib.Seq.{drop-cons}
 use Rattle.hd153108.specs.Hd153108.{Chip}
-use Rattle.sheet.specs.declared.Line.TheVariants.{Has}
+use Rattle.std.specs.Prelude.{Some}
 use Rattle.sheet.specs.Sheet.{keys, key_at, line_text, values, text_from, text_of, pasted, Wrote}
 use Rattle.sheet.proofs.Going.{Going, begins, fits, goes_on, ends}
 use Rattle.sheet_written.specs.Writer.{Writable}
@@ -15,7 +15,7 @@ use Rattle.sheet_written.proofs.Values.{length_values, length_text}
 
 -- the text from a key on
 abbrev pub left : Chip → ℕ → List ℕ
-left a k = text_from k (map Has (drop k (values a)))
+left a k = text_from k (map Some (drop k (values a)))
 
 module _ (a : Chip) (w : Writable a) where
   all : length (values a) ≡ keys

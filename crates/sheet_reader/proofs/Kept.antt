@@ -7,8 +7,8 @@ use native.Mathlib.Omega.{arith}
 use lib.ListN.{length, take, drop, set, replicate, length-set, take-append-drop, drop_of_length-le}
 use lib.Seq.{take-add, take-suc-set, drop-set-lt, drop-drop}
 use Rattle.vocabulary.specs.Choice.{pick}
-use Rattle.sheet.specs.declared.Line.{Line}
-use Rattle.sheet.specs.declared.Line.TheVariants.{Missing}
+use Rattle.sheet.specs.Sheet.{Line}
+use Rattle.std.specs.Prelude.{None}
 use Rattle.sheet.specs.Sheet.{keys, Reading, good, bad, bad_line, read_from, sheet_of}
 use Rattle.sheet.specs.Kept.{number_for, kept_of, line_for}
 use Rattle.sheet.proofs.Apart.{nothing}
@@ -29,10 +29,10 @@ drop_same : (m r x : ℕ) → drop m (replicate (m + r) x) ≡ replicate r x
 drop_same zero r x = let e : 0 + r ≡ r = omega arith in rw e
 drop_same (suc m) r x = let e : suc m + r ≡ suc (m + r) = omega arith in rw e (drop_same m r x)
 
-map_same : (m : ℕ) → map line_for (replicate m 4096) ≡ replicate m Missing
+map_same : (m : ℕ) → map line_for (replicate m 4096) ≡ replicate m None
 unfolding line_for pick
 map_same zero = refl
-map_same (suc m) = ap (λ (l : List Line). Missing ∷ l) (map_same m)
+map_same (suc m) = ap (λ (l : List Line). None ∷ l) (map_same m)
 
 -- what is handed back: the bad line's number, and what is kept
 abbrev pub Hands : ℕ → List ℕ → Reading → Type 0
@@ -118,17 +118,17 @@ module _ (due n : ℕ) where
       let e : keys - due ≡ suc (keys - (due + 1)) = omega arith in
       rw e (stop due n [] (keys - (due + 1)) (nothing due) h)
 
-  end_good : 5 ≤ due → read_from (keys - due) due n [] ≡ good (replicate (keys - due) Missing)
+  end_good : 5 ≤ due → read_from (keys - due) due n [] ≡ good (replicate (keys - due) None)
   unfolding read_from
   end_good h =
       let e : keys - due ≡ (keys - due) + 0 = omega arith in
       ap (λ (m : ℕ). read_from m due n []) e
       ∙ skip (keys - due) 0 due n [] h (λ j l m. nothing j)
-      ∙ leads_good (replicate (keys - due) Missing) []
-      ∙ ap good (append-nil (replicate (keys - due) Missing))
+      ∙ leads_good (replicate (keys - due) None) []
+      ∙ ap good (append-nil (replicate (keys - due) None))
 
 module _ (text kept : List ℕ) (due n at : ℕ) (is : SoFar text kept due n at) where
-  all_kept : map line_for (take due kept) ++ replicate (keys - due) Missing ≡ map line_for kept
+  all_kept : map line_for (take due kept) ++ replicate (keys - due) None ≡ map line_for kept
   all_kept =
       sym (ap (λ (l : List Line). map line_for (take due kept) ++ l)
       (ap (map line_for) is.rest ∙ map_same (keys - due)))
@@ -141,9 +141,9 @@ module _ (text kept : List ℕ) (due n at : ℕ) (is : SoFar text kept due n at)
 
     pub ends_good : 5 ≤ due → Hands 0 kept (sheet_of text)
     ends_good h =
-        let r : read_from (keys - due) due n (drop at text) ≡ good (replicate (keys - due) Missing) =
+        let r : read_from (keys - due) due n (drop at text) ≡ good (replicate (keys - due) None) =
         rw (drop_of_length-le text end) (end_good due n h) in
         let whole : sheet_of text ≡ good (map line_for kept) =
         sym (rw r at is.whole)
-        ∙ leads_good (map line_for (take due kept)) (replicate (keys - due) Missing) ∙ ap good all_kept in
+        ∙ leads_good (map line_for (take due kept)) (replicate (keys - due) None) ∙ ap good all_kept in
         rw whole (refl, sym is.again)

@@ -6,8 +6,9 @@ use mathlib.Core.List.{List, [], ◌∷◌}
 use native.Mathlib.Omega.{arith}
 use lib.ListN.{length}
 use borrow.Author.Tests.{lt-ltb, le-ltb}
-use Rattle.vocabulary.specs.Refusal.{lent_length, out_of_range, no_access, no_index, read_mode, still_waiting}
-use Rattle.vocabulary.specs.Refusal.{over_fifteen, malformed, short_buffer, refusal_of, standing}
+use Rattle.vocabulary.specs.declared.Refusal.TheVariants.{LentLength, OutOfRange, NoAccess, NoIndex, ReadMode, StillWaiting}
+use Rattle.vocabulary.specs.Refusal.{refusal_of, standing}
+use Rattle.vocabulary.specs.declared.Refusal.TheVariants.{OverFifteen, Malformed, ShortBuffer}
 use Rattle.vocabulary.proofs.Refusals.{standing_clear}
 use Rattle.vocabulary.proofs.Call.{tried_first, stops, goes_on}
 use Rattle.hd153108.specs.Hd153108.{Chip, short, outside}
@@ -39,7 +40,7 @@ module _ (a : Chip) (out : List ℕ) {n : ℕ} (e : n ≡ tried a) where
     unfolding write
     over h =
         stops (write_refusals a out) 0 out _
-        (lent_length ∷ out_of_range ∷ no_access ∷ no_index ∷ read_mode ∷ still_waiting ∷ []) over_fifteen 1 _ refl refl
+        (LentLength ∷ OutOfRange ∷ NoAccess ∷ NoIndex ∷ ReadMode ∷ StillWaiting ∷ []) OverFifteen 1 _ refl refl
         (stands.0, (stands.1, (refl, (refl, (refl, (refl, tt)))))) h
 
     module _ {p : Bool} (f : p ≡ over_fifteen_in a.colours) where
@@ -62,9 +63,9 @@ module _ (a : Chip) (out : List ℕ) {n : ℕ} (e : n ≡ tried a) where
           refused_short h =
               let less : length out < length (text_of a) = omega (arith, long) in
               stops (write_refusals a out) 0 out _
-              (lent_length ∷ out_of_range ∷ no_access ∷ no_index ∷ read_mode ∷ still_waiting ∷ over_fifteen
-              ∷ malformed ∷ [])
-              short_buffer 6 _ refl refl
+              (LentLength ∷ OutOfRange ∷ NoAccess ∷ NoIndex ∷ ReadMode ∷ StillWaiting ∷ OverFifteen
+              ∷ Malformed ∷ [])
+              ShortBuffer 6 _ refl refl
               (stands.0, (stands.1, (refl, (refl, (refl, (refl, (neither, (refl, tt))))))))
               (lt-ltb (length out) _ less)
 

@@ -15,7 +15,7 @@ use Rattle.vocabulary.proofs.Outcome.{accepted_does, accepted_none}
 use Rattle.vocabulary.proofs.Refusals.{none_exactly}
 use Rattle.hd153108.specs.Hd153108.{Chip, InRange}
 use Rattle.hd153108.proofs.InRange.{in_range_lem}
-use Rattle.sheet.specs.declared.Line.TheVariants.{Has}
+use Rattle.std.specs.Prelude.{Some}
 use Rattle.sheet.specs.Sheet.{keys, key_at, good, sheet_of, colours_in, values, chip_lines, text_of}
 use Rattle.sheet.specs.Sheet.{pasted, over_fifteen_in, write_refusals, write}
 use Rattle.sheet.specs.Grammar.{Lawful}
@@ -26,7 +26,7 @@ use Rattle.sheet_written.proofs.Values.{low_first, length_values, writable}
 
 -- a table's colours, with no byte over 15, and lines behind them
 lawful_colours : (t : List ℕ) (k : ℕ) (rest : List ℕ) → 5 ≤ k → over_fifteen_in t ≡ false
-    → Lawful (k + length (colours_in t)) (map Has rest) → Lawful k (map Has (colours_in t ++ rest))
+    → Lawful (k + length (colours_in t)) (map Some rest) → Lawful k (map Some (colours_in t ++ rest))
 unfolding colours_in
 lawful_colours [] k rest h e g = let s : k + 0 ≡ k = omega arith in rw s at g
 lawful_colours (r ∷ []) k rest h e g = let s : k + 0 ≡ k = omega arith in rw s at g
@@ -57,7 +57,7 @@ chip_lawful a w =
 pub round : (a : Chip) → Writable a → sheet_of (text_of a) ≡ good (chip_lines a)
 round a w =
     let long : length (chip_lines a) ≡ keys =
-    length-map (values a) Has ∙ length_values a w.overlays w.colours in
+    length-map (values a) Some ∙ length_values a w.overlays w.colours in
     lawful_good (chip_lines a) long (chip_lawful a w)
 
 -- the first bytes of a buffer that a word is written over are the word

@@ -8,8 +8,8 @@ use lib.ListN.{length, drop, length-append}
 use Rattle.vocabulary.specs.Choice.{pick}
 use Rattle.vocabulary.proofs.Choice.{picks_first, picks_second, cases}
 use Rattle.hex_digits.specs.Hex.{hex}
-use Rattle.sheet.specs.declared.Line.{Line}
-use Rattle.sheet.specs.declared.Line.TheVariants.{Has, Missing}
+use Rattle.sheet.specs.Sheet.{Line}
+use Rattle.std.specs.Prelude.{Some, None}
 use Rattle.sheet.specs.Sheet.{keys, key_at, front, width, required, line_text, line_of, Reading, good, bad, led, ended}
 use Rattle.sheet.specs.Sheet.{read_from, sheet_of, bad_line, text_from}
 use Rattle.sheet.proofs.Texts.{line_length}
@@ -20,7 +20,7 @@ size : ℕ → ℕ → ℕ
 size zero k = 0
 size (suc n) k = length (front (key_at k)) + width (key_at k) + 1 + size n (k + 1)
 
-length_from : (vs : List ℕ) (k : ℕ) → length (text_from k (map Has vs)) ≡ size (length vs) k
+length_from : (vs : List ℕ) (k : ℕ) → length (text_from k (map Some vs)) ≡ size (length vs) k
 unfolding text_from size
 length_from [] k = refl
 length_from (v ∷ vs) k = simp length-append (omega (arith, line_length (key_at k) v, length_from vs (k + 1)))
@@ -30,15 +30,15 @@ all : size keys 0 ≡ 2134
 unfolding size key_at pick front hex
 all = refl
 
-pub length_all : (vs : List ℕ) → length vs ≡ keys → length (text_from 0 (map Has vs)) ≡ 2134
+pub length_all : (vs : List ℕ) → length vs ≡ keys → length (text_from 0 (map Some vs)) ≡ 2134
 length_all vs e = length_from vs 0 ∙ ap (λ (n : ℕ). size n 0) e ∙ all
 
 -- a missing line is no longer than one that is there
 no_longer : (l : List Line) (k : ℕ) → length (text_from k l) ≤ size (length l) k
 unfolding text_from size
 no_longer [] k = omega arith
-no_longer (Has v ∷ l) k = simp length-append (omega (arith, line_length (key_at k) v, no_longer l (k + 1)))
-no_longer (Missing ∷ l) k = omega (arith, no_longer l (k + 1))
+no_longer (Some v ∷ l) k = simp length-append (omega (arith, line_length (key_at k) v, no_longer l (k + 1)))
+no_longer (None ∷ l) k = omega (arith, no_longer l (k + 1))
 
 -- a sheet has at most 2,134 bytes
 pub sheet_bytes : (t : List ℕ) (l : List Line) → sheet_of t ≡ good l → length t ≤ 2134
@@ -59,8 +59,8 @@ module _ (more k n : ℕ) (t : List ℕ)
     (on : (n : ℕ) (t : List ℕ) → bad_line (read_from more (k + 1) n t) ≤ n + more) where
   bad_step : (x : Line) → line_of (key_at k) t ≡ x → bad_line (read_from (suc more) k n t) ≤ n + suc more
   unfolding read_from
-  bad_step (Has v) e = rw (e, bad_led) (omega (arith, on (n + 1) (drop (length (line_text (key_at k) v)) t)))
-  bad_step Missing e =
+  bad_step (Some v) e = rw (e, bad_led) (omega (arith, on (n + 1) (drop (length (line_text (key_at k) v)) t)))
+  bad_step None e =
       rw e
       (cases (required (key_at k))
       (λ b. rw (picks_first (bad n) _ b) (omega arith))

@@ -9,7 +9,7 @@ use Rattle.vocabulary.specs.Refusal.{refusal_of}
 use Rattle.vocabulary.specs.Outcome.{Outcome, answered_at}
 use Rattle.vocabulary.proofs.Outcome.{accepted_does, accepted_none}
 use Rattle.hd153108.specs.Hd153108.{Chip}
-use Rattle.sheet.specs.declared.Line.{Line}
+use Rattle.sheet.specs.Sheet.{Line}
 use Rattle.sheet.specs.Sheet.{key_at, front, line_text, values, text_from, good, sheet_of, write}
 use Rattle.calls.specs.Calls.{Call, register_calls, calls_of, call_refusals, sheet_to_calls}
 use Rattle.theorem_load.proofs.Grammar.{Registers, good_lines}

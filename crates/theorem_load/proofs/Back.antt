@@ -9,8 +9,8 @@ use lib.Seq.{ext_get_or, take_at, drop_at}
 use Rattle.hd153108.specs.Hd153108.{Chip, Table, colour, overlay, size, table_of, colour_at, InRange}
 use Rattle.hd153108.proofs.InRange.{in_range_lem, table_length}
 use Rattle.hd153108.proofs.Data.{byte_at_lem}
-use Rattle.sheet.specs.declared.Line.{Line}
-use Rattle.sheet.specs.declared.Line.TheVariants.{Has, Missing}
+use Rattle.sheet.specs.Sheet.{Line}
+use Rattle.std.specs.Prelude.{Some, None}
 use Rattle.sheet.specs.Sheet.{sheet_of, good, colours_in, values, chip_lines, text_of, over_fifteen_in}
 use Rattle.sheet_written.specs.Writer.{Writable}
 use Rattle.sheet_written.proofs.Values.{length_colours}
@@ -37,17 +37,17 @@ same_entries n s t ls lt h =
 
 module _ (a : Chip) (g : InRange a) where
   listing : Table → List Line
-  listing t = map Has (colours_in (table_of t a))
+  listing t = map Some (colours_in (table_of t a))
 
   listing_length : (t : Table) → length (listing t) ≡ size t
   unfolding listing
   listing_length t =
-      length-map (colours_in (table_of t a)) Has ∙ length_colours (size t) (table_of t a) (table_length t a g)
+      length-map (colours_in (table_of t a)) Some ∙ length_colours (size t) (table_of t a) (table_length t a g)
 
   -- the overlays' lines come first, then the colours'
-  listings : map Has (colours_in a.overlays ++ colours_in a.colours) ≡ listing overlay ++ listing colour
+  listings : map Some (colours_in a.overlays ++ colours_in a.colours) ≡ listing overlay ++ listing colour
   unfolding listing
-  listings = map-append Has (colours_in a.overlays) (colours_in a.colours)
+  listings = map-append Some (colours_in a.overlays) (colours_in a.colours)
 
   chip_entries : (t : Table) → entries_of t (chip_lines a) ≡ listing t
   unfolding values
@@ -78,7 +78,7 @@ module _ (a b after : Chip) (w : Writable a) (l : Leaves (chip_lines a) b after)
   same_entry t e h =
       let n = table_length t a range in
       sym (l.entries t e
-      ∙ (ap (λ (x : List Line). filled (get_or x e Missing) (colour_at e (table_of t b))) (chip_entries a range t)
+      ∙ (ap (λ (x : List Line). filled (get_or x e None) (colour_at e (table_of t b))) (chip_entries a range t)
       ∙ listed (table_of t a) e _ (low_table t) (omega arith)))
 
   pub returned : Same a after

@@ -10,7 +10,7 @@ use Rattle.vocabulary.proofs.Outcome.{accepted_does}
 use Rattle.vocabulary.proofs.Refusals.{refusal_none}
 use Rattle.hd153108.specs.Hd153108.{Chip}
 use Rattle.hd153108.proofs.InRange.{not_short, not_outside}
-use Rattle.sheet.specs.declared.Line.{Line}
+use Rattle.sheet.specs.Sheet.{Line}
 use Rattle.sheet.specs.Sheet.{sheet_of, good, text_of, over_fifteen_in, pasted, write_refusals, write}
 use Rattle.calls.specs.Calls.{Call, calls_of, call_bytes, call_refusals, sheet_to_calls}
 use Rattle.sheet_written.specs.Writer.{Writable}

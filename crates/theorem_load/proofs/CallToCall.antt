@@ -5,13 +5,14 @@ use mathlib.Core.Bool.{false}
 use mathlib.Core.List.{List}
 use native.Mathlib.Omega.{arith}
 use lib.ListN.{length, take, replicate, length-replicate}
-use Rattle.vocabulary.specs.Refusal.{due, malformed}
+use Rattle.vocabulary.specs.Refusal.{due}
+use Rattle.vocabulary.specs.declared.Refusal.TheVariants.{Malformed}
 use Rattle.vocabulary.specs.Outcome.{Outcome, accepting}
 use Rattle.vocabulary.proofs.Range.{clash}
 use Rattle.vocabulary.proofs.Outcome.{accepted_does, accepted_none}
 use Rattle.vocabulary.proofs.Refusals.{none_exactly}
 use Rattle.hd153108.specs.Hd153108.{Chip, InRange}
-use Rattle.sheet.specs.declared.Line.{Line}
+use Rattle.sheet.specs.Sheet.{Line}
 use Rattle.sheet.specs.Sheet.{Reading, good, bad, sheet_of, lines_of, chip_lines, text_of, pasted, write}
 use Rattle.sheet.specs.Grammar.{IsSheet}
 use Rattle.sheet.proofs.Grammar.{grammar}
@@ -35,7 +36,7 @@ unfolding sheet_to_calls
 good_by text out (good l) e f = e
 good_by text out (bad n) e f =
     let none = none_exactly (call_refusals (bad n) out) (accepted_none _ n out _ (rw e at f)) in
-    let well-formed : due (call_refusals (bad n) out) malformed ≡ false = search in
+    let well-formed : due (call_refusals (bad n) out) Malformed ≡ false = search in
     clash well-formed
 
 pub accepted_good : (text out : List ℕ) → (sheet_to_calls text out).refusal ≡ 0

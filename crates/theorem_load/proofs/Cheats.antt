@@ -8,8 +8,8 @@ use Rattle.vocabulary.specs.Run.{Along}
 use Rattle.vocabulary.proofs.Run.{run_keeps}
 use Rattle.hd153108.specs.Hd153108.{Chip, chip, clock, Table, colour, overlay, table_of, colour_at, InRange}
 use Rattle.hd153108.proofs.InRange.{in_range_lem}
-use Rattle.sheet.specs.declared.Line.{Line}
-use Rattle.sheet.specs.declared.Line.TheVariants.{Has, Missing}
+use Rattle.sheet.specs.Sheet.{Line}
+use Rattle.std.specs.Prelude.{Some, None}
 use Rattle.sheet.specs.Sheet.{sheet_of, lines_of, over_fifteen_in, red_of, green_of, blue_of, text_of}
 use Rattle.sheet_written.specs.Writer.{Writable}
 use Rattle.sheet_written.proofs.Round.{round}
@@ -22,17 +22,17 @@ use Rattle.theorem_load.proofs.Back.{load_returns}
 module _ (w : Writing) where
   -- an entry that the sheet lists has its colour; a missing entry is not touched
   module _ {lines : List Line} {c : Chip} (m : Loads w lines c) (t : Table) (e : ℕ) where
-    entry_left : (x : Line) → get_or (entries_of t lines) e Missing ≡ x
+    entry_left : (x : Line) → get_or (entries_of t lines) e None ≡ x
         → colour_at e (table_of t (made w (calls_of lines) c)) ≡ filled x (colour_at e (table_of t c))
     entry_left x h = m.leaves.entries t e ∙ ap (λ (y : Line). filled y (colour_at e (table_of t c))) h
 
-    pub load_sets_listed : (v : ℕ) → get_or (entries_of t lines) e Missing ≡ Has v
+    pub load_sets_listed : (v : ℕ) → get_or (entries_of t lines) e None ≡ Some v
         → colour_at e (table_of t (made w (calls_of lines) c)) ≡ red_of v ∷ green_of v ∷ blue_of v ∷ []
-    load_sets_listed v h = entry_left (Has v) h
+    load_sets_listed v h = entry_left (Some v) h
 
-    pub load_keeps_missing : get_or (entries_of t lines) e Missing ≡ Missing
+    pub load_keeps_missing : get_or (entries_of t lines) e None ≡ None
         → colour_at e (table_of t (made w (calls_of lines) c)) ≡ colour_at e (table_of t c)
-    load_keeps_missing h = entry_left Missing h
+    load_keeps_missing h = entry_left None h
 
   -- what no call changes, no list of calls changes
   made_keeps : {A : Type 0} (f : Chip → A) → ((select b : ℕ) (c : Chip) → f (w select b c).left ≡ f c)

@@ -6,7 +6,7 @@ use mathlib.Core.Bool.{false}
 use native.Mathlib.Omega.{arith}
 use lib.ListN.{length, get_or}
 use Rattle.hd153108.specs.Hd153108.{colour_at}
-use Rattle.sheet.specs.declared.Line.TheVariants.{Has, Missing}
+use Rattle.std.specs.Prelude.{Some, None}
 use Rattle.sheet.specs.Sheet.{colours_in, over_fifteen_in, red_of, green_of, blue_of}
 use Rattle.sheet_written.proofs.Values.{low_first}
 use Rattle.theorem_load.specs.Load.{filled}
@@ -22,7 +22,7 @@ low_entry r g b t o =
 
 -- a colour's components are the entry's bytes
 components : (r g b : ℕ) → r < 16 → g < 16 → b < 16
-    → filled (Has ((r * 16 + g) * 16 + b)) [] ≡ r ∷ g ∷ b ∷ []
+    → filled (Some ((r * 16 + g) * 16 + b)) [] ≡ r ∷ g ∷ b ∷ []
 components r g b hr hg hb =
     let v = (r * 16 + g) * 16 + b in
     let er : red_of v ≡ r = omega arith in
@@ -32,7 +32,7 @@ components r g b hr hg hb =
 
 -- so a listed entry is the table's
 pub listed : (t : List ℕ) (e : ℕ) (old : List ℕ) → over_fifteen_in t ≡ false → 3 * e + 3 ≤ length t
-    → filled (get_or (map Has (colours_in t)) e Missing) old ≡ colour_at e t
+    → filled (get_or (map Some (colours_in t)) e None) old ≡ colour_at e t
 unfolding colours_in
 listed [] e old o h = absurd (let z : ⊥ = omega arith in z)
 listed (r ∷ []) e old o h = absurd (let z : ⊥ = omega arith in z)

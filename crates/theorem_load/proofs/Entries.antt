@@ -8,8 +8,8 @@ use lib.ListN.{length}
 use Rattle.vocabulary.proofs.Range.{clash}
 use Rattle.hd153108.specs.declared.State.{State}
 use Rattle.hd153108.specs.Hd153108.{Chip, Table, colour, overlay, size, table_of, with_table, InRange}
-use Rattle.sheet.specs.declared.Line.{Line}
-use Rattle.sheet.specs.declared.Line.TheVariants.{Has, Missing}
+use Rattle.sheet.specs.Sheet.{Line}
+use Rattle.std.specs.Prelude.{Some, None}
 use Rattle.calls.specs.Calls.{entry_calls, table_calls}
 use Rattle.theorem_load.proofs.Grammar.{Colours}
 use Rattle.theorem_load.proofs.Runs.{Runs, none, next as after}
@@ -19,8 +19,8 @@ use Rattle.theorem_load.proofs.Tables.{put_line, put_lines}
 
 -- the chip after a line's calls, and after a table's
 unfoldable pub line_done : Table → ℕ → Line → Chip → Chip
-line_done t e (Has v) c = entry_done t e v c
-line_done t e Missing c = c
+line_done t e (Some v) c = entry_done t e v c
+line_done t e None c = c
 
 unfoldable pub table_done : Table → ℕ → List Line → Chip → Chip
 table_done t e [] c = c
@@ -39,11 +39,11 @@ pub table_calls_lem : (t : Table) (e : ℕ) (follows : Bool) (l : List Line) (c 
     → e + length l ≤ size t → Ready t e follows c → Runs (table_calls (select_of t) e follows l) c (table_done t e l c)
 unfolding table_calls table_done line_done entry_calls
 table_calls_lem t e follows [] c g b n r = none c
-table_calls_lem t e follows (Has v ∷ l) c g (fits, b) n r =
+table_calls_lem t e follows (Some v ∷ l) c g (fits, b) n r =
     let h : e < size t = omega arith in
     after g (entry_calls_lem t e v h fits follows c g (λ f. r f h))
     (λ g1. table_calls_lem t (e + 1) true l (entry_done t e v c) g1 b (omega arith) (ready_next t e v c))
-table_calls_lem t e follows (Missing ∷ l) c g b n r =
+table_calls_lem t e follows (None ∷ l) c g b n r =
     table_calls_lem t (e + 1) false l c g b (omega arith) (λ f h. clash (sym f))
 
 -- ---- what they leave
@@ -55,8 +55,8 @@ table_stored overlay s c = refl
 
 line_table : (t : Table) (e : ℕ) (x : Line) (c : Chip) → table_of t (line_done t e x c) ≡ put_line e x (table_of t c)
 unfolding line_done entry_done put_line
-line_table t e (Has v) c = table_stored t _ _
-line_table t e Missing c = refl
+line_table t e (Some v) c = table_stored t _ _
+line_table t e None c = refl
 
 pub table_lines : (t : Table) (e : ℕ) (l : List Line) (c : Chip)
     → table_of t (table_done t e l c) ≡ put_lines e l (table_of t c)
@@ -69,8 +69,8 @@ module _ {A : Type 0} (f : Chip → A) (t : Table)
     (kept : (s : List ℕ) (c : Chip) (a p r g : ℕ) → f (with_table t s (at c a p r g)) ≡ f c) where
   line_keeps : (e : ℕ) (x : Line) (c : Chip) → f (line_done t e x c) ≡ f c
   unfolding line_done entry_done
-  line_keeps e (Has v) c = kept _ c _ _ _ _
-  line_keeps e Missing c = refl
+  line_keeps e (Some v) c = kept _ c _ _ _ _
+  line_keeps e None c = refl
 
   pub table_keeps : (e : ℕ) (l : List Line) (c : Chip) → f (table_done t e l c) ≡ f c
   unfolding table_done

@@ -8,7 +8,7 @@ use Rattle.hd153108.specs.Hd153108.{Chip, Table, colour, overlay, register_at, s
 use Rattle.hd153108.specs.Hd153108.{entry_at, next, port, data_write, written, InRange}
 use Rattle.vocabulary.specs.Component.{put}
 use Rattle.hd153108.proofs.Data.{at, table_at, red_write, green_write, blue_write}
-use Rattle.sheet.specs.declared.Line.TheVariants.{Has}
+use Rattle.std.specs.Prelude.{Some}
 use Rattle.sheet.specs.Sheet.{red_of, green_of, blue_of}
 use Rattle.calls.specs.Calls.{call, colour_calls, entry_calls}
 use Rattle.theorem_load.proofs.Runs.{Runs, one, next as after}
@@ -74,7 +74,7 @@ module _ (t : Table) (e v : ℕ) (in_table : e < size t) (colourFits : v < 4096)
 
   pub entry_calls_lem : (follows : Bool) (c : Chip) → InRange c
       → (follows ≡ true → (c.state.pointer ≡ 0) × (c.state.address ≡ e))
-      → Runs (entry_calls (select_of t) e follows (Has v)) c (entry_done t e v c)
+      → Runs (entry_calls (select_of t) e follows (Some v)) c (entry_done t e v c)
   unfolding entry_calls
   entry_calls_lem true c g r = let (pointer, address) = r refl in three_calls c g pointer address
   entry_calls_lem false c g r =

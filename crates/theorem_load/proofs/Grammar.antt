@@ -10,8 +10,8 @@ use lib.ListN.{length, take, drop, length-take, length-drop}
 use Rattle.vocabulary.specs.Choice.{pick}
 use Rattle.vocabulary.proofs.Range.{clash}
 use Rattle.hd153108.specs.Hd153108.{Table, colour, overlay, size, reserved_bits}
-use Rattle.sheet.specs.declared.Line.{Line}
-use Rattle.sheet.specs.declared.Line.TheVariants.{Has, Missing}
+use Rattle.sheet.specs.Sheet.{Line}
+use Rattle.std.specs.Prelude.{Some, None}
 use Rattle.sheet.specs.Sheet.{key_at, keys, sheet_of, good, registers_of, overlays_of}
 use Rattle.sheet.proofs.Texts.{width_entry}
 use Rattle.sheet.specs.Grammar.{Lawful}
@@ -26,25 +26,25 @@ one_on k n = omega arith
 lawful_drop : (n k : ℕ) (l : List Line) → Lawful k l → Lawful (k + n) (drop n l)
 lawful_drop zero k l h = let e : k + 0 ≡ k = omega arith in rw e h
 lawful_drop (suc n) k [] h = tt
-lawful_drop (suc n) k (Has v ∷ l) (_, _, h) = rw (one_on k n) (lawful_drop n (k + 1) l h)
-lawful_drop (suc n) k (Missing ∷ l) (_, h) = rw (one_on k n) (lawful_drop n (k + 1) l h)
+lawful_drop (suc n) k (Some v ∷ l) (_, _, h) = rw (one_on k n) (lawful_drop n (k + 1) l h)
+lawful_drop (suc n) k (None ∷ l) (_, h) = rw (one_on k n) (lawful_drop n (k + 1) l h)
 
 lawful_take : (n k : ℕ) (l : List Line) → Lawful k l → Lawful k (take n l)
 lawful_take zero k l h = tt
 lawful_take (suc n) k [] h = tt
-lawful_take (suc n) k (Has v ∷ l) (fits, right, h) = (fits, right, lawful_take n (k + 1) l h)
-lawful_take (suc n) k (Missing ∷ l) (free, h) = (free, lawful_take n (k + 1) l h)
+lawful_take (suc n) k (Some v ∷ l) (fits, right, h) = (fits, right, lawful_take n (k + 1) l h)
+lawful_take (suc n) k (None ∷ l) (free, h) = (free, lawful_take n (k + 1) l h)
 
 -- every colour that is listed has three digits
 abbrev pub Colours : List Line → Type 0
 Colours [] = Unit
-Colours (Has v ∷ l) = (v < 4096) × Colours l
-Colours (Missing ∷ l) = Colours l
+Colours (Some v ∷ l) = (v < 4096) × Colours l
+Colours (None ∷ l) = Colours l
 
 colours_below : (k : ℕ) (l : List Line) → 5 ≤ k → Lawful k l → Colours l
 colours_below k [] h f = tt
-colours_below k (Has v ∷ l) h (fits, _, f) = (rw (width_entry k h) at fits, colours_below (k + 1) l (omega arith) f)
-colours_below k (Missing ∷ l) h (_, f) = colours_below (k + 1) l (omega arith) f
+colours_below k (Some v ∷ l) h (fits, _, f) = (rw (width_entry k h) at fits, colours_below (k + 1) l (omega arith) f)
+colours_below k (None ∷ l) h (_, f) = colours_below (k + 1) l (omega arith) f
 
 -- the four registers, each there
 pub record Registers (l : List Line) : Type 0 where
@@ -52,7 +52,7 @@ pub record Registers (l : List Line) : Type 0 where
   pub blinkmask : ℕ
   pub control : ℕ
   pub timing : ℕ
-  pub lines : l ≡ Has readmask ∷ Has blinkmask ∷ Has control ∷ Has timing ∷ []
+  pub lines : l ≡ Some readmask ∷ Some blinkmask ∷ Some control ∷ Some timing ∷ []
   pub readmask_byte : readmask < 256
   pub blinkmask_byte : blinkmask < 256
   pub control_byte : control < 256
@@ -61,7 +61,7 @@ pub record Registers (l : List Line) : Type 0 where
 
 lawful_registers : (l : List Line) → length l ≡ 4 → Lawful 1 l → Registers l
 unfolding key_at pick
-lawful_registers (Has r ∷ Has b ∷ Has o ∷ Has t ∷ []) h (fr, _, (fb, _, (fo, clear, (ft, _, _)))) = record {
+lawful_registers (Some r ∷ Some b ∷ Some o ∷ Some t ∷ []) h (fr, _, (fb, _, (fo, clear, (ft, _, _)))) = record {
   readmask = r;
   blinkmask = b;
   control = o;
@@ -73,15 +73,15 @@ lawful_registers (Has r ∷ Has b ∷ Has o ∷ Has t ∷ []) h (fr, _, (fb, _, 
   control_clear = eqb-true _ 0 clear;
   timing_byte = ft;
 }
-lawful_registers (Missing ∷ l) h (free, _) = clash free
-lawful_registers (Has r ∷ Missing ∷ l) h (_, _, (free, _)) = clash free
-lawful_registers (Has r ∷ Has b ∷ Missing ∷ l) h (_, _, (_, _, (free, _))) = clash free
-lawful_registers (Has r ∷ Has b ∷ Has o ∷ Missing ∷ l) h (_, _, (_, _, (_, _, (free, _)))) = clash free
+lawful_registers (None ∷ l) h (free, _) = clash free
+lawful_registers (Some r ∷ None ∷ l) h (_, _, (free, _)) = clash free
+lawful_registers (Some r ∷ Some b ∷ None ∷ l) h (_, _, (_, _, (free, _))) = clash free
+lawful_registers (Some r ∷ Some b ∷ Some o ∷ None ∷ l) h (_, _, (_, _, (_, _, (free, _)))) = clash free
 lawful_registers [] h f = absurd (let z : ⊥ = omega arith in z)
-lawful_registers (Has r ∷ []) h f = absurd (let z : ⊥ = omega arith in z)
-lawful_registers (Has r ∷ Has b ∷ []) h f = absurd (let z : ⊥ = omega arith in z)
-lawful_registers (Has r ∷ Has b ∷ Has o ∷ []) h f = absurd (let z : ⊥ = omega arith in z)
-lawful_registers (Has r ∷ Has b ∷ Has o ∷ Has t ∷ x ∷ l) h f = absurd (let z : ⊥ = omega arith in z)
+lawful_registers (Some r ∷ []) h f = absurd (let z : ⊥ = omega arith in z)
+lawful_registers (Some r ∷ Some b ∷ []) h f = absurd (let z : ⊥ = omega arith in z)
+lawful_registers (Some r ∷ Some b ∷ Some o ∷ []) h f = absurd (let z : ⊥ = omega arith in z)
+lawful_registers (Some r ∷ Some b ∷ Some o ∷ Some t ∷ x ∷ l) h f = absurd (let z : ⊥ = omega arith in z)
 
 -- ---- a good sheet
 

@@ -9,7 +9,7 @@ use Rattle.vocabulary.proofs.Range.{clash}
 use Rattle.hd153108.specs.declared.State.{State}
 use Rattle.hd153108.specs.Hd153108.{Chip, Table, colour, overlay, size, port, table_of, colour_at, InRange}
 use Rattle.hd153108.proofs.InRange.{table_length}
-use Rattle.sheet.specs.declared.Line.{Line}
+use Rattle.sheet.specs.Sheet.{Line}
 use Rattle.sheet.specs.Sheet.{overlays_of, colours_of}
 use Rattle.calls.specs.Calls.{calls_of}
 use Rattle.theorem_load.specs.Load.{writing, register_lines, entries_of, Leaves, LoadsSheets}

@@ -5,7 +5,7 @@ use mathlib.Core.List.{List}
 use Rattle.hd153108.specs.declared.Clock.{Clock}
 use Rattle.hd153108.specs.Hd153108.{Chip, register_at, with_state, registers, unreserved, restarted, written, InRange}
 use Rattle.hd153108.proofs.Keep.{control_kept}
-use Rattle.sheet.specs.declared.Line.{Line}
+use Rattle.sheet.specs.Sheet.{Line}
 use Rattle.calls.specs.Calls.{register_calls}
 use Rattle.theorem_load.specs.Load.{register_lines}
 use Rattle.theorem_load.proofs.Grammar.{Registers}

@@ -9,8 +9,8 @@ use Rattle.vocabulary.specs.Component.{Component, red, green, blue, part, one_of
 use Rattle.vocabulary.proofs.Component.{part_below, put_length, put_elsewhere, put_own}
 use Rattle.hd153108.specs.Hd153108.{colour_at}
 use Rattle.hd153108.proofs.Data.{byte_at_lem}
-use Rattle.sheet.specs.declared.Line.{Line}
-use Rattle.sheet.specs.declared.Line.TheVariants.{Has, Missing}
+use Rattle.sheet.specs.Sheet.{Line}
+use Rattle.std.specs.Prelude.{Some, None}
 use Rattle.sheet.specs.Sheet.{red_of, green_of, blue_of}
 use Rattle.theorem_load.specs.Load.{filled}
 
@@ -51,8 +51,8 @@ module _ (n r g b : ℕ) (t : List ℕ) where
 -- ---- lines stored from entry e on
 
 unfoldable pub put_line : ℕ → Line → List ℕ → List ℕ
-put_line e (Has v) t = put e (red_of v) (green_of v) (blue_of v) t
-put_line e Missing t = t
+put_line e (Some v) t = put e (red_of v) (green_of v) (blue_of v) t
+put_line e None t = t
 
 unfoldable pub put_lines : ℕ → List Line → List ℕ → List ℕ
 put_lines e [] t = t
@@ -60,19 +60,19 @@ put_lines e (x ∷ l) t = put_lines (e + 1) l (put_line e x t)
 
 line_length : (e : ℕ) (x : Line) (t : List ℕ) → length (put_line e x t) ≡ length t
 unfolding put_line
-line_length e (Has v) t = put_length _ _ _ _ t
-line_length e Missing t = refl
+line_length e (Some v) t = put_length _ _ _ _ t
+line_length e None t = refl
 
 line_other : (e : ℕ) (x : Line) (t : List ℕ) (m : ℕ) → (e ≡ m → ⊥) → colour_at m (put_line e x t) ≡ colour_at m t
 unfolding put_line
-line_other e (Has v) t m h = put_other _ _ _ _ t m h
-line_other e Missing t m h = refl
+line_other e (Some v) t m h = put_other _ _ _ _ t m h
+line_other e None t m h = refl
 
 line_here : (e : ℕ) (x : Line) (t : List ℕ) → 3 * e + 3 ≤ length t
     → colour_at e (put_line e x t) ≡ filled x (colour_at e t)
 unfolding put_line
-line_here e (Has v) t h = put_same _ _ _ _ t h
-line_here e Missing t h = refl
+line_here e (Some v) t h = put_same _ _ _ _ t h
+line_here e None t h = refl
 
 -- an entry before them is kept
 lines_before : (e : ℕ) (l : List Line) (t : List ℕ) (m : ℕ) → m < e → colour_at m (put_lines e l t) ≡ colour_at m t
@@ -83,7 +83,7 @@ lines_before e (x ∷ l) t m h =
 
 -- and each of them is as its line says
 lines_here : (e : ℕ) (l : List Line) (t : List ℕ) (i : ℕ) → 3 * (e + length l) ≤ length t
-    → colour_at (e + i) (put_lines e l t) ≡ filled (get_or l i Missing) (colour_at (e + i) t)
+    → colour_at (e + i) (put_lines e l t) ≡ filled (get_or l i None) (colour_at (e + i) t)
 unfolding put_lines
 lines_here e [] t i h = refl
 lines_here e (x ∷ l) t zero h =
@@ -94,8 +94,8 @@ lines_here e (x ∷ l) t (suc i) h =
     let n = line_length e x t in
     rw z
     (lines_here (e + 1) l (put_line e x t) i (omega arith)
-    ∙ ap (filled (get_or l i Missing)) (line_other e x t (e + 1 + i) (λ z. omega arith)))
+    ∙ ap (filled (get_or l i None)) (line_other e x t (e + 1 + i) (λ z. omega arith)))
 
 pub filled_at : (l : List Line) (t : List ℕ) (i : ℕ) → 3 * length l ≤ length t
-    → colour_at i (put_lines 0 l t) ≡ filled (get_or l i Missing) (colour_at i t)
+    → colour_at i (put_lines 0 l t) ≡ filled (get_or l i None) (colour_at i t)
 filled_at l t i h = let z : 0 + i ≡ i = omega arith in rw z at (lines_here 0 l t i (omega arith))

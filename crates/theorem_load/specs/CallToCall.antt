@@ -4,7 +4,7 @@
 use Rattle.std.specs.Prelude.{ℕ, ◌*◌, ◌≤◌, ◌≡◌, List, [], ◌∷◌, length, take}
 use Rattle.vocabulary.specs.Outcome.{Outcome}
 use Rattle.hd153108.specs.Hd153108.{Chip, InRange}
-use Rattle.sheet.specs.declared.Line.{Line}
+use Rattle.sheet.specs.Sheet.{Line}
 use Rattle.sheet.specs.Sheet.{chip_lines, write}
 use Rattle.sheet.specs.Grammar.{IsSheet}
 use Rattle.sheet_written.specs.Writer.{Writable}

@@ -8,8 +8,8 @@ use Rattle.vocabulary.specs.Run
 use Rattle.vocabulary.specs.Run.{after}
 use Rattle.hd153108.specs.declared.State.{State}
 use Rattle.hd153108.specs.Hd153108.{Chip, Table, colour, overlay, table_of, colour_at, InRange, writes, called}
-use Rattle.sheet.specs.declared.Line.{Line}
-use Rattle.sheet.specs.declared.Line.TheVariants.{Has, Missing}
+use Rattle.sheet.specs.Sheet.{Line}
+use Rattle.std.specs.Prelude.{Some, None}
 use Rattle.sheet.specs.Sheet.{sheet_of, good, lines_of, registers_of, overlays_of, colours_of, red_of, green_of}
 use Rattle.sheet.specs.Sheet.{blue_of, text_of}
 use Rattle.sheet_written.specs.Writer.{Writable}
@@ -42,7 +42,7 @@ AllAccepted w ks c = Run.AllAccepted (making w) ks c
 
 -- a chip's registers, as a sheet's lines say them
 abbrev pub register_lines : State → List Line
-register_lines s = Has s.readmask ∷ Has s.blinkmask ∷ Has s.control ∷ Has s.clock.timing ∷ []
+register_lines s = Some s.readmask ∷ Some s.blinkmask ∷ Some s.control ∷ Some s.clock.timing ∷ []
 
 -- a table's lines in a sheet, entry by entry
 abbrev pub entries_of : Table → List Line → List Line
@@ -51,8 +51,8 @@ entries_of overlay l = overlays_of l
 
 -- an entry's three bytes after the load: the sheet's components where the entry is listed, else as they were
 abbrev pub filled : Line → List ℕ → List ℕ
-filled (Has v) before = red_of v ∷ green_of v ∷ blue_of v ∷ []
-filled Missing before = before
+filled (Some v) before = red_of v ∷ green_of v ∷ blue_of v ∷ []
+filled None before = before
 
 -- the sheet's registers (a timing write restarts the blink position), the sheet's colours in each entry that it lists,
 -- every other entry as it was; and in range
@@ -61,7 +61,7 @@ pub record Leaves (lines : List Line) (before after : Chip) : Type 0 where
   pub position : after.state.clock.position ≡ 0
   pub entries : (t : Table) (e : ℕ)
       → colour_at e (table_of t after)
-      ≡ filled (get_or (entries_of t lines) e Missing) (colour_at e (table_of t before))
+      ≡ filled (get_or (entries_of t lines) e None) (colour_at e (table_of t before))
   pub in_range : InRange after
 
 pub record Loads (w : Writing) (lines : List Line) (c : Chip) : Type 0 where

@@ -10,7 +10,7 @@ use Rattle.hd153108.specs.Hd153108.{Chip, nibble, colour_at, InRange, writes, re
 use Rattle.ms622424.specs.Ms622424 as B
 use Rattle.ms622424_places.specs.Places.{Handed, Does, SameInUse}
 use Rattle.rgb640.specs.Rgb640 as C
-use Rattle.sheet.specs.declared.Line.{Line}
+use Rattle.sheet.specs.Sheet.{Line}
 use Rattle.sheet.specs.Sheet.{sheet_of, good}
 use Rattle.calls.specs.Calls.{Call, calls_of}
 use Rattle.theorem_load.specs.Load.{Leaves}

@@ -2,7 +2,8 @@
 use mathlib.Core.Path.{◌≡◌, refl, sym}
 use mathlib.Core.Bool.{true, false}
 use mathlib.Core.List.{List, [], ◌∷◌}
-use Rattle.vocabulary.specs.Refusal.{Row, lent_length, out_of_range, order, due, refusal_of}
+use Rattle.vocabulary.specs.Refusal.{Row, order, due, refusal_of}
+use Rattle.vocabulary.specs.declared.Refusal.TheVariants.{LentLength, OutOfRange}
 use Rattle.vocabulary.specs.Outcome.{Outcome, refusing}
 use Rattle.vocabulary.specs.Judged.{None}
 use Rattle.vocabulary.specs.Face.{called_by}
@@ -33,12 +34,12 @@ module _ {C K : Type 0} (refusals : K → C → List Row) (does : K → C → Ou
   refused_leaves e h = refused_left (refusal_of (refusals k c)) 0 c (does k c) e h
 
   -- a table of another length, or a state outside its ranges
-  pub called_one : due (refusals k c) lent_length ≡ true → called_by refusals does k c ≡ refusing 1 0 c
+  pub called_one : due (refusals k c) LentLength ≡ true → called_by refusals does k c ≡ refusing 1 0 c
   unfolding called_by
-  called_one e = sym (stops (refusals k c) 0 c (does k c) [] lent_length 0 _ refl refl tt e)
+  called_one e = sym (stops (refusals k c) 0 c (does k c) [] LentLength 0 _ refl refl tt e)
 
-  pub called_nine : due (refusals k c) lent_length ≡ false → due (refusals k c) out_of_range ≡ true
+  pub called_nine : due (refusals k c) LentLength ≡ false → due (refusals k c) OutOfRange ≡ true
       → called_by refusals does k c ≡ refusing 9 0 c
   unfolding called_by
   called_nine l e =
-      sym (stops (refusals k c) 0 c (does k c) (lent_length ∷ []) out_of_range 8 _ refl refl (l, tt) e)
+      sym (stops (refusals k c) 0 c (does k c) (LentLength ∷ []) OutOfRange 8 _ refl refl (l, tt) e)

@@ -4,7 +4,8 @@ use mathlib.Core.Path.{◌≡◌, refl, ap, ◌∙◌}
 use mathlib.Core.Bool.{Bool}
 use mathlib.Core.List.{List, [], ◌∷◌}
 use native.Mathlib.Omega.{arith}
-use Rattle.vocabulary.specs.Refusal.{Refusal, Row, due, order, first_due, refusal_of}
+use Rattle.vocabulary.specs.Refusal.{Row, due, order, first_due, refusal_of}
+use Rattle.vocabulary.specs.declared.Refusal.{Refusal}
 use Rattle.vocabulary.specs.Outcome.{Outcome, refusing, answered_at}
 use Rattle.vocabulary.proofs.Refusals.{number_positive, refusal_is, refusal_exactly, none_exactly}
 use Rattle.vocabulary.proofs.Outcome.{refusal_keeps, accepted_does, accepted_none}

@@ -8,7 +8,8 @@ use borrow.Author.Tests.{le-leb, leb-true}
 use lib.Dec.{leb}
 use lib.ListN.{length, get_or}
 use Rattle.vocabulary.specs.Every.{every}
-use Rattle.vocabulary.specs.Refusal.{lent_length, out_of_range, no_access, refusal_of, standing}
+use Rattle.vocabulary.specs.Refusal.{refusal_of, standing}
+use Rattle.vocabulary.specs.declared.Refusal.TheVariants.{LentLength, OutOfRange, NoAccess}
 use Rattle.vocabulary.specs.Outcome.{Outcome, accepting, refusing, answered}
 use Rattle.vocabulary.specs.declared.Looked.{Looked}
 use Rattle.vocabulary.specs.Look.{Block, Found, there, nowhere, found, look_refusals, looked, looking, unseen}
@@ -83,7 +84,7 @@ module _ {C : Type 0} {short outside : Bool} (c : C) (whole : short ≡ false) (
       → answered (refusal_of (look_refusals short outside f)) c (looked f c) ≡ refusing 3 0 c
   look_misses e =
       rw e
-      (sym (stops (look_refusals short outside nowhere) 0 c _ (lent_length ∷ out_of_range ∷ []) no_access 2 _ refl refl
+      (sym (stops (look_refusals short outside nowhere) 0 c _ (LentLength ∷ OutOfRange ∷ []) NoAccess 2 _ refl refl
       (whole, (inside, tt)) refl))
 
 -- as the code knows it: refused by what every call tries first

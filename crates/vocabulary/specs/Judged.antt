@@ -1,7 +1,8 @@
 -- Which refusal a table gives, as facts; and demand 1 said once, of any call: its table of refusals, the line that it
 -- tells, all as given, and its outcome.
 use Rattle.std.specs.Prelude.{ℕ, suc, ◌≡◌, Bool, true, false, List, [], ◌∷◌, ◌++◌}
-use Rattle.vocabulary.specs.Refusal.{Refusal, number, Row, ◌when◌, due, order}
+use Rattle.vocabulary.specs.Refusal.{number, Row, ◌when◌, due, order}
+use Rattle.vocabulary.specs.declared.Refusal.{Refusal}
 use Rattle.vocabulary.specs.Outcome.{Outcome, refusing}
 
 -- none of these is due

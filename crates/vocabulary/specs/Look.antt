@@ -3,7 +3,9 @@
 use Rattle.std.specs.Prelude.{ℕ, ◌-◌, Bool, true, false, List, [], ◌∷◌, length, get_or, Result, Ok, Err}
 use Rattle.vocabulary.specs.Choice.{pick}
 use Rattle.vocabulary.specs.Range.{within, meets}
-use Rattle.vocabulary.specs.Refusal.{Refusal, number, Row, ◌when◌, lent_length, out_of_range, no_access}
+use Rattle.vocabulary.specs.Refusal.{number, Row, ◌when◌}
+use Rattle.vocabulary.specs.declared.Refusal.{Refusal}
+use Rattle.vocabulary.specs.declared.Refusal.TheVariants.{LentLength, OutOfRange, NoAccess}
 use Rattle.vocabulary.specs.Outcome.{Outcome, accepting}
 use Rattle.vocabulary.specs.declared.Looked.{Looked}
 
@@ -42,7 +44,7 @@ number_of nowhere = 0
 -- refusals 1 and 9 as for the chip's other calls, then 3 for a place that isn't there
 abbrev pub look_refusals : Bool → Bool → Found → List Row
 look_refusals short outside f =
-    (lent_length when short) ∷ (out_of_range when outside) ∷ (no_access when is_nowhere f) ∷ []
+    (LentLength when short) ∷ (OutOfRange when outside) ∷ (NoAccess when is_nowhere f) ∷ []
 
 -- what an accepted look does: it answers, and leaves its chip
 abbrev pub looked : {C : Type 0} → Found → C → Outcome C

@@ -2,7 +2,8 @@
 use Rattle.std.specs.Prelude.{ℕ, Result, Ok, Err}
 use Rattle.vocabulary.specs.Outcome.{Outcome}
 use Rattle.vocabulary.specs.Component.{colour_word}
-use Rattle.vocabulary.specs.Refusal.{Refusal, number}
+use Rattle.vocabulary.specs.Refusal.{number}
+use Rattle.vocabulary.specs.declared.Refusal.{Refusal}
 use Rattle.vocabulary.specs.declared.Colour.{Colour}
 use Rattle.vocabulary.specs.declared.Shown.{Shown}
 

@@ -3,7 +3,8 @@
 use mathlib.Core.Path.{refl, sym}
 use mathlib.Core.List.{[], ◌∷◌}
 use native.Mathlib.Omega.{arith}
-use Rattle.vocabulary.specs.Refusal.{standing, lent_length, out_of_range}
+use Rattle.vocabulary.specs.Refusal.{standing}
+use Rattle.vocabulary.specs.declared.Refusal.TheVariants.{LentLength, OutOfRange}
 use Rattle.vocabulary.proofs.Range.{not_fails, holds_passes, misses_fails, meets_passes}
 use Rattle.vocabulary.proofs.Refusals.{refusal_is, refusal_none}
 use Rattle.rgb640.specs.Rgb640.{whole, state_ranges}
@@ -13,10 +14,10 @@ use Rattle.rgb640_range.proofs.standing_of.Tie as tie
 pub standing_of_spec : {M : Type 1} → statement M
 standing_of_spec =
     tie.close
-    (tie.spec (λ c. sym (refusal_is (standing _ _) [] lent_length _ refl tt (not_fails (whole _) (λ g. omega arith))))
+    (tie.spec (λ c. sym (refusal_is (standing _ _) [] LentLength _ refl tt (not_fails (whole _) (λ g. omega arith))))
     (λ c κs. search)
     (λ c.
-    sym (refusal_is (standing _ _) (lent_length ∷ []) out_of_range _ refl
+    sym (refusal_is (standing _ _) (LentLength ∷ []) OutOfRange _ refl
     (holds_passes (whole _) (omega arith), tt) (misses_fails (state_ranges _) (cc))))
     (λ c.
     sym (refusal_none (standing _ _)
