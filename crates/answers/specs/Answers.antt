@@ -1,10 +1,9 @@
 -- The answer lines of a replay, their LF too.
-use Rattle.std.specs.Prelude.{ℕ, zero, suc, ◌+◌, ◌/◌, ◌%◌, ◌≤◌, ◌≡◌, List, [], ◌∷◌, ◌++◌, ltb, length, take}
+use Rattle.std.specs.Prelude.{ℕ, zero, suc, ◌/◌, ◌%◌, ◌+◌, List, [], ◌∷◌, ◌++◌, ltb}
 use Rattle.vocabulary.specs.Choice.{pick}
 use Rattle.hex_digits.specs.Hex.{hex}
-use Rattle.answers.specs.declared.Text.{Text}
 use Rattle.answers.specs.declared.News.{News}
-use Rattle.answers.specs.declared.News.TheVariants.{Moved, Value, Look, Colour, Sync, Ten}
+use Rattle.answers.specs.declared.News.TheVariants.{Done, Moved, Value, Look, Shown, Sync, Ten}
 
 -- a number of at most so many digits in decimal, without leading zeros
 unfoldable pub decimal : ℕ → ℕ → List ℕ
@@ -43,10 +42,11 @@ ten_text t = 116 ∷ 101 ∷ 110 ∷ 61 ∷ hex 3 t ++ 10 ∷ []
 
 -- what an accepted call tells
 abbrev pub news_text : News → List ℕ
+news_text Done = ok_text
 news_text (Moved n) = moved_text n
 news_text (Value v) = value_text v
 news_text (Look v) = look_text v
-news_text (Colour r g b) = colour_text r g b
+news_text (Shown c) = colour_text c.red c.green c.blue
 news_text (Sync s) = sync_text s
 news_text (Ten t) = ten_text t
 
@@ -54,13 +54,3 @@ news_text (Ten t) = ten_text t
 unfoldable pub told : ℕ → List ℕ → List ℕ
 told zero accepted = accepted
 told (suc n) accepted = refused_text (suc n)
-
--- a text is this line
-pub record Says (t : Text) (line : List ℕ) : Type 0 where
-  pub whole : length t.bytes ≡ 16
-  pub inside : t.len ≤ 16
-  pub is : take t.len t.bytes ≡ line
-
--- r is the text t with a word behind it, where there is room
-abbrev pub Adds : Text → List ℕ → Text → Type 0
-Adds t word r = (line : List ℕ) → Says t line → length line + length word ≤ 16 → Says r (line ++ word)

@@ -1,12 +1,12 @@
-// Digits behind an answer's text: a byte, hex digits, a decimal number.
+// Digits behind an answer's text: hex digits, a decimal number.
 //
-// The replay's answer lines decide; `Adds` and `decimal` of answers' specs/Answers.antt say what is written, where a
-// text has room. Not modelled: a number over 16 bits.
+// The replay's answer lines decide; `hex` of hex_digits' specs/Hex.antt and `decimal` of answers' specs/Answers.antt
+// say what is written, where a text has room. Not modelled: a number over 16 bits.
 #![tactic(auto)]
 
-ghost use Rattle.std.specs.Prelude.{◌≡◌, [], ◌∷◌, ◌+◌, ◌%◌};
+ghost use Rattle.std.specs.Prelude.{◌≡◌, ◌≤◌, ◌++◌, ◌+◌, ◌%◌, length};
 ghost use Rattle.hex_digits.specs.Hex.{hex as hex_text};
-ghost use Rattle.answers.specs.Answers.{Adds, decimal as decimal_text};
+ghost use Rattle.answers.specs.Answers.{decimal as decimal_text};
 
 use answers::Text;
 
@@ -17,42 +17,28 @@ fn unit(n: u16) -> u8
     48 + (n % 10) as u8
 }
 
-// A byte behind a text's own.
-pub fn put(t: Text, b: u8) -> Text
-    ensures { Adds t (b ∷ []) result }
-{
-    let len = t.len;
-    if len < 16 {
-        let mut bytes = t.bytes;
-        bytes[len] = b;
-        return Text {
-            bytes: bytes,
-            len: len + 1,
-        };
-    }
-    t
-}
-
 // So many hex digits behind a text.
-pub fn hex(t: Text, width: usize, v: u16) -> Text
-    ensures { Adds t (hex_text width v) result }
+#[tactic(auto, using(answers::proofs::Digits::hex_steps))]
+pub fn hex(t: &mut Text, width: usize, v: u16)
+    ensures { length t.old + length (hex_text width v) ≤ 16 → t.new ≡ t.old ++ hex_text width v }
 {
     if width == 0 {
-        return t;
+        return;
     }
-    put(hex(t, width - 1, v / 16), hex_digits::digit(v))
+    hex(t, width - 1, v / 16);
+    t.push(hex_digits::digit(v));
 }
 
 // A decimal number of at most so many digits behind a text.
-#[tactic(auto, using(answers::proofs::Adds::decimal_last))]
-pub fn decimal(t: Text, most: usize, n: u16) -> Text
-    ensures { Adds t (decimal_text most n) result }
+#[tactic(auto, using(answers::proofs::Digits::decimal_steps))]
+pub fn decimal(t: &mut Text, most: usize, n: u16)
+    ensures { length t.old + length (decimal_text most n) ≤ 16 → t.new ≡ t.old ++ decimal_text most n }
 {
     if most == 0 {
-        return t;
+        return;
     }
-    if n < 10 {
-        return put(t, unit(n));
+    if 10 <= n {
+        decimal(t, most - 1, n / 10);
     }
-    put(decimal(t, most - 1, n / 10), unit(n))
+    t.push(unit(n));
 }

@@ -1,70 +1,71 @@
-// An answer line with a number: what an accepted call tells, or a refusal, to bytes.
+// The line of what an accepted call tells, and of a refusal.
 //
 // The replay's answer lines decide; `news_text` and `refused_text` of answers' specs/Answers.antt say each, and the two
 // calls equal them for any number that the types hold. Not modelled: a sheet's 265 lines.
 #![tactic(auto)]
 
-ghost use Rattle.std.specs.Prelude.{[], ◌∷◌, ◌++◌, ◌+◌, ◌<◌, take};
+ghost use Rattle.std.specs.Prelude.{◌≡◌, [], ◌∷◌, ◌++◌, ◌+◌, ◌<◌, length};
 ghost use Rattle.hex_digits.specs.Hex.{hex as hex_text};
-ghost use Rattle.answers.specs.Answers.{Says, decimal as decimal_text, colour_text, refused_text, news_text};
+ghost use Rattle.answers.specs.Answers.{decimal as decimal_text, colour_text, refused_text, news_text};
 
 use answers::{News, Text};
-use answers_digits::{decimal, hex, put};
+use answers_digits::{decimal, hex};
+use vocabulary::Colour;
 
-// A name of so many bytes, a decimal number of at most so many digits, and LF.
-fn count(name: [u8; 16], len: usize, most: usize, n: u16) -> Text
-    requires { len + most < 16 }
-    ensures { Says result (take len name ++ (decimal_text most n ++ 10 ∷ [])) }
+// A name, a decimal number of at most so many digits, and LF.
+#[tactic(auto, using(answers::proofs::Digits::line_steps))]
+fn count(name: &[u8], most: usize, n: u16) -> Text
+    requires { length name.now + most < 16 }
+    ensures { result ≡ name.now ++ (decimal_text most n ++ 10 ∷ []) }
 {
-    let front = Text {
-        bytes: name,
-        len: len,
-    };
-    put(decimal(front, most, n), b'\n')
+    let mut t = bounded_text::Text::of(name);
+    decimal(&mut t, most, n);
+    t.push(b'\n');
+    t
 }
 
 // A name, so many hex digits, and LF.
-fn field(name: [u8; 16], len: usize, width: usize, v: u16) -> Text
-    requires { len + width < 16 }
-    ensures { Says result (take len name ++ (hex_text width v ++ 10 ∷ [])) }
+#[tactic(auto, using(answers::proofs::Digits::line_steps))]
+fn field(name: &[u8], width: usize, v: u16) -> Text
+    requires { length name.now + width < 16 }
+    ensures { result ≡ name.now ++ (hex_text width v ++ 10 ∷ []) }
 {
-    let front = Text {
-        bytes: name,
-        len: len,
-    };
-    put(hex(front, width, v), b'\n')
+    let mut t = bounded_text::Text::of(name);
+    hex(&mut t, width, v);
+    t.push(b'\n');
+    t
 }
 
-fn colour(r: u8, g: u8, b: u8) -> Text
-    ensures { Says result (colour_text r g b) }
+#[tactic(auto, using(answers::proofs::Digits::line_steps))]
+fn colour(c: Colour) -> Text
+    ensures { result ≡ colour_text c.red c.green c.blue }
 {
-    let bytes = *b"colour=.........";
-    let front = Text {
-        bytes: bytes,
-        len: 7,
-    };
-    put(
-        hex(hex(hex(front, 2, r as u16), 2, g as u16), 2, b as u16),
-        b'\n',
-    )
+    let mut t = bounded_text::Text::of(b"colour=");
+    hex(&mut t, 2, u16::from(c.red));
+    hex(&mut t, 2, u16::from(c.green));
+    hex(&mut t, 2, u16::from(c.blue));
+    t.push(b'\n');
+    t
 }
 
+// Stays: no `impl Display`; this line can't fail, and `write!` says what it wrote only where it answers Ok.
 // The line of what an accepted call tells.
 pub fn line(news: News) -> Text
-    ensures { Says result (news_text news) }
+    ensures { result ≡ news_text news }
 {
     match news {
-        News::Moved(n) => count(*b"moved=..........", 6, 5, n),
-        News::Value(v) => field(*b"value=..........", 6, 2, v as u16),
-        News::Look(v) => field(*b"look=...........", 5, 4, v),
-        News::Colour(r, g, b) => colour(r, g, b),
-        News::Sync(s) => field(*b"sync=...........", 5, 1, s as u16),
-        News::Ten(t) => field(*b"ten=............", 4, 3, t),
+        News::Done => answers::ok(),
+        News::Moved(n) => count(b"moved=", 5, n),
+        News::Value(v) => field(b"value=", 2, u16::from(v)),
+        News::Look(v) => field(b"look=", 4, v),
+        News::Shown(c) => colour(c),
+        News::Sync(s) => field(b"sync=", 1, u16::from(s)),
+        News::Ten(t) => field(b"ten=", 3, t),
     }
 }
 
 pub fn refused(n: u8) -> Text
-    ensures { Says result (refused_text n) }
+    ensures { result ≡ refused_text n }
 {
-    count(*b"refused=........", 8, 3, n as u16)
+    count(b"refused=", 3, u16::from(n))
 }

@@ -1,29 +1,21 @@
-// The answer to a call: its refusal, or else what it tells, to bytes.
+// The answer to a call: its refusal, or else what it tells.
 //
-// The replay's answer lines decide; `told` of answers' specs/Answers.antt says which, and the two calls equal it for
-// any number that the types hold. Not modelled: a sheet's 265 lines.
-#![tactic(auto, using(answers::proofs::Adds::says_refused, answers::proofs::Adds::says_done))]
+// The replay's answer lines decide; `told` of answers' specs/Answers.antt says which, and the call equals it for any
+// number that the types hold. Not modelled: a sheet's 265 lines.
+#![tactic(auto, using(answers::proofs::Digits::told_refused, answers::proofs::Digits::told_done))]
 
-ghost use Rattle.answers.specs.Answers.{Says, ok_text, news_text, told as told_text};
+ghost use Rattle.std.specs.Prelude.{◌≡◌};
+ghost use Rattle.answers.specs.Answers.{news_text, told as told_text};
 
 use answers::{News, Text};
 
-// A call's refusal, or else what it tells.
+// Stays: the refusal is a number, as the chips' C answers have it.
+// A call's refusal, 0 for none, or else what it tells.
 pub fn told(refusal: u8, news: News) -> Text
-    ensures { Says result (told_text refusal (news_text news)) }
+    ensures { result ≡ told_text refusal (news_text news) }
 {
-    if refusal != 0 {
-        return answers_line::refused(refusal);
+    match refusal {
+        0 => answers_line::line(news),
+        n => answers_line::refused(n),
     }
-    answers_line::line(news)
-}
-
-// The same of a call that tells nothing.
-pub fn done(refusal: u8) -> Text
-    ensures { Says result (told_text refusal ok_text) }
-{
-    if refusal == 0 {
-        return answers::ok();
-    }
-    answers_line::refused(refusal)
 }

@@ -1,5 +1,5 @@
 -- The whole board of a replay: what a log line does to it, and the bytes that answer it.
-use Rattle.std.specs.Prelude.{ℕ, ◌≤◌, ◌≡◌, List, ◌++◌, length, take}
+use Rattle.std.specs.Prelude.{ℕ, ◌≤◌, ◌≡◌, List, length, take}
 use Rattle.hd153108.specs.Hd153108 as A
 use Rattle.ms622424.specs.Ms622424 as B
 use Rattle.ms622424_places.specs.Places.{handed, view}
@@ -9,15 +9,16 @@ use Rattle.sheet.specs.Sheet.{write, text_of}
 use Rattle.port_log.specs.declared.Chip.{Chip}
 use Rattle.port_log.specs.declared.Chip.TheVariants.{ChipA, ChipB, ChipC}
 use Rattle.port_log.specs.declared.Call.{Call}
-use Rattle.port_log.specs.declared.Line.{Line}
+use Rattle.port_log.specs.declared.Line as L
 use Rattle.port_log.specs.declared.Line.TheVariants.{To, Choose, Expand, Sheet, Bad}
-use Rattle.answers.specs.declared.Text.{Text}
 use Rattle.answers.specs.Answers.{told, ok_text}
 use Rattle.turns.specs.Turns.{Turn, turn, bad, Took, expand_text}
 use Rattle.turns_a.specs.Turns.{a_turn}
 use Rattle.turns_b.specs.Turns.{b_turn}
 use Rattle.turns_c.specs.Turns.{c_turn}
 use Rattle.board.specs.declared.Board.{Board}
+use Rattle.board.specs.declared.Answer.{Answer}
+use Rattle.board.specs.declared.Answer.TheVariants.{Line, Page}
 use Rattle.board.specs.declared.Step.{Step}
 
 -- three chips with their tables, the chip chosen last, and the page that a sheet is written on
@@ -30,19 +31,19 @@ pub record Whole : Type 0 where
 
 -- parts anew
 abbrev pub with_a : Whole → A.Chip → Whole
-with_a w a = record { a = a; b = w.b; c = w.c; chosen = w.chosen; page = w.page }
+with_a w a = record w { a = a }
 
 abbrev pub with_b : Whole → B.Chip → Whole
-with_b w b = record { a = w.a; b = b; c = w.c; chosen = w.chosen; page = w.page }
+with_b w b = record w { b = b }
 
 abbrev pub with_c : Whole → C.Chip → Whole
-with_c w c = record { a = w.a; b = w.b; c = c; chosen = w.chosen; page = w.page }
+with_c w c = record w { c = c }
 
 abbrev pub choosing : Chip → Whole → Whole
-choosing chip w = record { a = w.a; b = w.b; c = w.c; chosen = chip; page = w.page }
+choosing chip w = record w { chosen = chip }
 
 abbrev pub with_page : List ℕ → Whole → Whole
-with_page page w = record { a = w.a; b = w.b; c = w.c; chosen = w.chosen; page = page }
+with_page page w = record w { page = page }
 
 -- ---- A line
 
@@ -65,7 +66,7 @@ sheet_turn ChipB w = bad w
 sheet_turn ChipC w = bad w
 
 -- `chip=` chooses and changes nothing else, `expand=` speaks to any chip, a bad line calls nothing
-unfoldable pub board_turn : Line → Whole → Turn Whole
+unfoldable pub board_turn : L.Line → Whole → Turn Whole
 board_turn (To call) w = chip_turn w.chosen call w
 board_turn (Choose chip) w = turn ok_text (choosing chip w)
 board_turn (Expand width v) w = turn (expand_text width v) w
@@ -104,14 +105,17 @@ whole s colours overlays queue map table page = record {
   page = page;
 }
 
-abbrev pub step : Board → Text → ℕ → Step
-step board text listed = record { board = board; text = text; listed = listed }
+-- a board after a line that a text answers
+abbrev pub says : Board → List ℕ → Step
+says board text = record { board = board; answer = Line text }
 
--- a step's answer: its text, and behind it the page's first bytes
-pub record Answers (r : Step) (page text : List ℕ) : Type 0 where
-  pub short : r.text.len ≤ length r.text.bytes
-  pub long : r.listed ≤ length page
-  pub is : take r.text.len r.text.bytes ++ take r.listed page ≡ text
+-- an answer's bytes: its text, or the page's first bytes
+abbrev pub Answered : Answer → List ℕ → List ℕ → Type 0
+Answered (Line t) page text = t ≡ text
+Answered (Page n) page text = (n ≤ length page) × (take n page ≡ text)
+
+abbrev pub Answers : Step → List ℕ → List ℕ → Type 0
+Answers r page text = Answered r.answer page text
 
 abbrev pub StepTook : Step → List ℕ → List ℕ → List ℕ → List ℕ → List ℕ → List ℕ → Turn Whole → Type 0
 StepTook r colours overlays queue map table page t =

@@ -7,6 +7,9 @@
 // bytes and lines.
 #![tactic(auto)]
 
+ghost use Rattle.std.specs.Prelude.{◌≡◌};
+ghost use Rattle.board.specs.Board.{says};
+
 use answers::Text;
 use hd153108::State as AState;
 use ms622424_places::State as BState;
@@ -22,10 +25,26 @@ pub struct Board {
     pub chosen: Chip,
 }
 
-// A board after a line, and the answer: a text, and behind it so many of the page's first bytes.
-#[derive(Clone, Copy)]
+// The answer to a line: a text, or so many of the page's first bytes.
+#[derive(Drop)]
+pub enum Answer {
+    Line(Text),
+    Page(usize),
+}
+
+// A board after a line, and the answer.
+#[derive(Drop)]
 pub struct Step {
     pub board: Board,
-    pub text: Text,
-    pub listed: usize,
+    pub answer: Answer,
+}
+
+// A board after a line that a text answers.
+pub fn says(board: Board, text: Text) -> Step
+    ensures { result ≡ says board text }
+{
+    Step {
+        board,
+        answer: Answer::Line(text),
+    }
 }

@@ -4,37 +4,13 @@
 // tables and page. The tables and the page are lent. Not modelled: as there.
 #![tactic(auto)]
 
-ghost use Rattle.std.specs.Prelude.{◌≡◌};
-ghost use Rattle.board.specs.Board.{whole, step, board_turn, StepTook};
-ghost use Rattle.board_answer.specs.Chosen.{chosen_board};
+ghost use Rattle.board.specs.Board.{whole, board_turn, StepTook};
 
-use answers::Text;
-use board::{Board, Step};
-use port_log::{Chip, Line};
-
-// A text alone: the board as it is.
-fn plain(board: Board, text: Text) -> Step
-    ensures { result ≡ step board text 0 }
-{
-    Step {
-        board: board,
-        text: text,
-        listed: 0,
-    }
-}
-
-// Another chip chosen: nothing else changes.
-fn choose(board: Board, chip: Chip) -> Board
-    ensures { result ≡ chosen_board chip board }
-{
-    Board {
-        chosen: chip,
-        ..board
-    }
-}
+use board::{Board, Step, says};
+use port_log::Line;
 
 // A line's call made, and its whole answer.
-#[tactic(auto, using(crate::proofs::Lines::line_expands, crate::proofs::Lines::line_bad))]
+// Stays: lent slices one by one. Tried as a struct of them: what a callee leaves is lost where it is passed on whole.
 pub fn answer(
     board: Board,
     line: Line,
@@ -55,9 +31,15 @@ pub fn answer(
 {
     match line {
         Line::To(c) => board_call::call(board, c, colours, overlays, queue, map, table),
-        Line::Choose(chip) => plain(choose(board, chip), answers::ok()),
-        Line::Expand(width, v) => plain(board, turns::expand(width, v)),
+        Line::Choose(chip) => says(
+            Board {
+                chosen: chip,
+                ..board
+            },
+            answers::ok(),
+        ),
+        Line::Expand(width, v) => says(board, turns::expand(width, v)),
         Line::Sheet => board_sheet::sheet(board, colours, overlays, page),
-        Line::Bad => plain(board, answers::bad()),
+        Line::Bad => says(board, answers::bad()),
     }
 }

@@ -4,60 +4,14 @@
 // modelled: as there.
 #![tactic(auto)]
 
-ghost use Rattle.std.specs.Prelude.{◌≡◌, ℕ, List};
+ghost use Rattle.std.specs.Prelude.{ℕ, List};
 ghost use Rattle.board.specs.Board.{whole, chip_turn, StepTook};
-ghost use Rattle.board_call.specs.Steps.{a_step, b_step, c_step};
 
-use board::{Board, Step};
+use board::{Board, Step, says};
 use port_log::{Call, Chip};
-use turns_a::ATurn;
-use turns_b::BTurn;
-use turns_c::CTurn;
-
-// The board with chip A after its turn, and the answer; with B; with C.
-fn with_a(board: Board, t: ATurn) -> Step
-    ensures { result ≡ a_step board t }
-{
-    let s = t.state;
-    let text = t.text;
-    let mut n = board;
-    n.a = s;
-    Step {
-        board: n,
-        text: text,
-        listed: 0,
-    }
-}
-
-fn with_b(board: Board, t: BTurn) -> Step
-    ensures { result ≡ b_step board t }
-{
-    let s = t.state;
-    let text = t.text;
-    let mut n = board;
-    n.b = s;
-    Step {
-        board: n,
-        text: text,
-        listed: 0,
-    }
-}
-
-fn with_c(board: Board, t: CTurn) -> Step
-    ensures { result ≡ c_step board t }
-{
-    let s = t.state;
-    let text = t.text;
-    let mut n = board;
-    n.c = s;
-    Step {
-        board: n,
-        text: text,
-        listed: 0,
-    }
-}
 
 // A call on the chip chosen last.
+// Stays: lent slices one by one. Tried as a struct of them: what a callee leaves is lost where it is passed on whole.
 #[tactic(auto, using(crate::proofs::Turned::turned))]
 pub fn call(
     board: Board,
@@ -75,10 +29,36 @@ pub fn call(
         (whole board colours.old overlays.old queue.old
         map.old table.old page)) }
 {
-    let chosen = board.chosen;
-    match chosen {
-        Chip::ChipA => with_a(board, turns_a::a_turn(board.a, call, colours, overlays)),
-        Chip::ChipB => with_b(board, turns_b::b_turn(board.b, call, queue, map)),
-        Chip::ChipC => with_c(board, turns_c::c_turn(board.c, call, table)),
+    match board.chosen {
+        Chip::ChipA => {
+            let t = turns_a::a_turn(board.a, call, colours, overlays);
+            says(
+                Board {
+                    a: t.state,
+                    ..board
+                },
+                t.text,
+            )
+        }
+        Chip::ChipB => {
+            let t = turns_b::b_turn(board.b, call, queue, map);
+            says(
+                Board {
+                    b: t.state,
+                    ..board
+                },
+                t.text,
+            )
+        }
+        Chip::ChipC => {
+            let t = turns_c::c_turn(board.c, call, table);
+            says(
+                Board {
+                    c: t.state,
+                    ..board
+                },
+                t.text,
+            )
+        }
     }
 }

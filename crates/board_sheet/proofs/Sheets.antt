@@ -1,53 +1,58 @@
 -- The sheet writer's answer as the board's turn, and a bad line. Assumes nothing.
+use Rattle.std.specs.Prelude.{Ok, Err}
 use Prim.Native.Nat.{ℕ}
 use mathlib.Core.Path.{◌≡◌, refl, sym}
 use mathlib.Core.List.{List}
+use Rattle.vocabulary.specs.declared.Refusal.{Refusal}
+use Rattle.vocabulary.specs.declared.Refusal.TheVariants.{LentLength, OverFifteen, NoAccess, NoIndex, ReadMode}
+use Rattle.vocabulary.specs.declared.Refusal.TheVariants.{StillWaiting, ShortBuffer, Malformed, OutOfRange}
+use Rattle.vocabulary.specs.Refusal.{number}
 use Rattle.hd153108.specs.Hd153108 as A
-use Rattle.sheet.specs.declared.Answer.{Answer}
-use Rattle.sheet.specs.declared.Answer.TheVariants.{Done, Refused}
-use Rattle.sheet.specs.Sheet.{write, outcome}
+use Rattle.sheet.specs.Sheet as S
 use Rattle.port_log.specs.declared.Chip as L
-use Rattle.port_log.specs.declared.Chip.TheVariants.{ChipA}
-use Rattle.answers.specs.declared.Text.{Text}
-use Rattle.answers.specs.Answers.{Says, bad_text}
-use Rattle.answers.proofs.Adds.{says_refused}
-use Rattle.turns.specs.Turns.{bad}
+use Rattle.port_log.specs.declared.Chip.TheVariants.{ChipA, ChipB, ChipC}
+use Rattle.answers.specs.Answers.{bad_text, refused_text, told}
 use Rattle.board.specs.declared.Board.{Board}
 use Rattle.board.specs.declared.Step.{Step}
-use Rattle.board.specs.Board.{whole, sheet_turn, step, StepTook}
-use Rattle.board.proofs.Steps.{took_text, says_text, says_page, refusal_number}
-use Rattle.board_sheet.specs.Listed.{Listed}
+use Rattle.board.specs.Board.{whole, sheet_turn, says, StepTook}
+use Rattle.board.proofs.Steps.{took_text, says_page, sheet_at}
+use Rattle.board_sheet.specs.Listed.{listed}
 
--- an answer that was matched
-pub listed_at : {a k : Answer} (text : Text) (n : ℕ) → a ≡ k → Listed k text n → Listed a text n
-listed_at text n m l = rw m l
+told_refusal : (r : Refusal) (text : List ℕ) → refused_text (number r) ≡ told (number r) text
+unfolding told
+told_refusal LentLength text = refl
+told_refusal OverFifteen text = refl
+told_refusal NoAccess text = refl
+told_refusal NoIndex text = refl
+told_refusal ReadMode text = refl
+told_refusal StillWaiting text = refl
+told_refusal ShortBuffer text = refl
+told_refusal Malformed text = refl
+told_refusal OutOfRange text = refl
 
--- a step, by its parts
-is_step : (r : Step) {s : Board} {n : ℕ} → r.board ≡ s → r.listed ≡ n → r ≡ step s r.text n
-is_step r b l = rw (sym b, sym l)
-
-module _ (r : Step) (s : Board) (cs os queue map table page after : List ℕ) where
-  pub took_bad : r.board ≡ s → r.listed ≡ 0 → Says r.text bad_text
-      → StepTook r cs os queue map table page (bad (whole s cs os queue map table page))
-  took_bad b l h = rw (is_step r b l) (took_text page (whole s cs os queue map table page) h)
-
-  pub took_sheet : (a : Answer) → outcome a after ≡ write (A.chip s.a cs os) page → r.board ≡ s
-      → Listed a r.text r.listed
+module _ {r : Step} {s : Board} (cs os queue map table page after : List ℕ) {k : L.Chip} where
+  took_sheet : (a : S.Answer) → S.outcome a after ≡ S.write (A.chip s.a cs os) page
+      → r ≡ record { board = s; answer = listed a }
       → StepTook r cs os queue map table after (sheet_turn ChipA (whole s cs os queue map table page))
-  took_sheet (Done n) e b (h, l) =
-      rw (is_step r b l, sym e) (record {
-        says = says_page (A.chip s.a cs os) page n after s r.text h e;
-        leaves = refl;
-      })
-  took_sheet (Refused n line) e b (h, l) =
-      rw (is_step r b l, sym e) (record {
-        says = says_text s r.text after
-            (says_refused _ _ (refusal_number (A.chip s.a cs os) page n after line e) h);
-        leaves = refl;
-      })
+  took_sheet (Ok n) e is =
+      rw (is, sym e) (record { says = says_page (A.chip s.a cs os) page n after e; leaves = refl })
+  took_sheet (Err t) e is = rw (is, sym e) (record { says = told_refusal t.refusal _; leaves = refl })
 
   -- the sheet of the chip chosen
-  pub took_list : {k : L.Chip} → k ≡ ChipA
-      → ((q m t : List ℕ) → StepTook r cs os q m t after (sheet_turn ChipA (whole s cs os q m t page)))
+  pub sheet_a : {a : S.Answer} → k ≡ ChipA → S.outcome a after ≡ S.write (A.chip s.a cs os) page
+      → r ≡ record { board = s; answer = listed a }
       → StepTook r cs os queue map table after (sheet_turn k (whole s cs os queue map table page))
-  took_list m h = rw m (h queue map table)
+  sheet_a {a} m e is = sheet_at (whole s cs os queue map table page) m (took_sheet a e is)
+
+  -- bad on the chips that have none
+  pub sheet_b : {text : List ℕ} → k ≡ ChipB → text ≡ bad_text → r ≡ says s text
+      → StepTook r cs os queue map table page (sheet_turn k (whole s cs os queue map table page))
+  sheet_b m h is =
+      let w = whole s cs os queue map table page in rw is (sheet_at w m (took_text w h))
+
+  pub sheet_c : {text : List ℕ} → k ≡ ChipC → text ≡ bad_text → r ≡ says s text
+      → StepTook r cs os queue map table page (sheet_turn k (whole s cs os queue map table page))
+  sheet_c m h is =
+      let w = whole s cs os queue map table page in rw is (sheet_at w m (took_text w h))
+
+pub ruleset sheets = (sheet_a, sheet_b, sheet_c)

@@ -1,10 +1,11 @@
--- How the sheet writer's answer is told: so many bytes of the page behind no text, or a text that refuses.
-use Rattle.std.specs.Prelude.{ℕ, ◌≡◌, []}
-use Rattle.sheet.specs.declared.Answer.{Answer}
-use Rattle.sheet.specs.declared.Answer.TheVariants.{Done, Refused}
-use Rattle.answers.specs.declared.Text.{Text}
-use Rattle.answers.specs.Answers.{Says, refused_text}
+-- How the sheet writer's answer is told: so many bytes of the page, or a text that refuses.
+use Rattle.std.specs.Prelude.{Ok, Err}
+use Rattle.vocabulary.specs.Refusal.{number}
+use Rattle.sheet.specs.Sheet as S
+use Rattle.answers.specs.Answers.{refused_text}
+use Rattle.board.specs.declared.Answer.{Answer}
+use Rattle.board.specs.declared.Answer.TheVariants.{Line, Page}
 
-abbrev pub Listed : Answer → Text → ℕ → Type 0
-Listed (Done n) text listed = Says text [] × (listed ≡ n)
-Listed (Refused n line) text listed = Says text (refused_text n) × (listed ≡ 0)
+abbrev pub listed : S.Answer → Answer
+listed (Ok n) = Page n
+listed (Err e) = Line (refused_text (number e.refusal))

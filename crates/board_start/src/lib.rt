@@ -18,13 +18,10 @@ use port_log::Chip;
 use rgb640::State as CState;
 
 // Chip A after its first reset, which reads nothing of the state before.
+// Stays: zeros written out, since the chips' states are the structs that C sees, and those get no derive here.
 fn a_start() -> AState
     ensures { result ≡ a_zeroed }
 {
-    let k = hd153108::Clock {
-        timing: 0,
-        position: 0,
-    };
     let given = AState {
         address: 0,
         pointer: 0,
@@ -33,40 +30,37 @@ fn a_start() -> AState
         readmask: 0,
         blinkmask: 0,
         control: 0,
-        clock: k,
+        clock: hd153108::Clock {
+            timing: 0,
+            position: 0,
+        },
     };
-    let r = hd153108_reset::zk_a_reset(given);
-    let s = r.state;
-    s
+    hd153108_reset::zk_a_reset(given).state
 }
 
 // Chip B's state before: its revision is 3 and its board number 5.
 fn b_given() -> BState
     ensures { result ≡ revised }
 {
-    let port = ms622424::Port {
-        address: 0,
-        counter: 0,
-        red: 0,
-        green: 0,
-    };
-    let control = ms622424::Control {
-        command: 0,
-        readmode: 0,
-    };
-    let ident = ms622424::Ident {
-        revision: 3,
-        board: 5,
-    };
-    let fifo = ms622424_places::Fifo {
-        first: 0,
-        waiting: 0,
-    };
     BState {
-        port: port,
-        control: control,
-        ident: ident,
-        fifo: fifo,
+        port: ms622424::Port {
+            address: 0,
+            counter: 0,
+            red: 0,
+            green: 0,
+        },
+        control: ms622424::Control {
+            command: 0,
+            readmode: 0,
+        },
+        ident: ms622424::Ident {
+            revision: 3,
+            board: 5,
+        },
+        fifo: ms622424_places::Fifo {
+            first: 0,
+            waiting: 0,
+        },
     }
 }
 
@@ -75,31 +69,26 @@ fn b_start(queue: &[u64]) -> BState
     ensures { (map : List ℕ) → view (handed result queue.now map)
         ≡ (b_called b_resets (view (handed revised queue.now map))).left }
 {
-    let r = ms622424_reset::zk_b_reset(b_given(), queue);
-    let s = r.state;
-    s
+    ms622424_reset::zk_b_reset(b_given(), queue).state
 }
 
 // Chip C after its first reset, which reads nothing of the state before either.
 fn c_start() -> CState
     ensures { result ≡ c_zeroed }
 {
-    let f = rgb640::Colour {
-        red: 0,
-        green: 0,
-        blue: 0,
-    };
     let given = CState {
         index: 0,
         red: 0,
         green: 0,
-        fetched: f,
+        fetched: rgb640::Colour {
+            red: 0,
+            green: 0,
+            blue: 0,
+        },
         place: 0,
         update: 0,
     };
-    let r = rgb640_reset::zk_c_reset(given);
-    let s = r.state;
-    s
+    rgb640_reset::zk_c_reset(given).state
 }
 
 // The board at the start.
@@ -109,13 +98,10 @@ pub fn start(queue: &[u64]) -> Board
         → whole result a.colours a.overlays queue.now map c.table page
         ≡ started a queue.now map c page }
 {
-    let a = a_start();
-    let b = b_start(queue);
-    let c = c_start();
     Board {
-        a: a,
-        b: b,
-        c: c,
+        a: a_start(),
+        b: b_start(queue),
+        c: c_start(),
         chosen: Chip::ChipA,
     }
 }

@@ -41,6 +41,20 @@ impl<const N: usize> Text<N> {
         Text { bytes, len }
     }
 
+    // The bytes of a slice, where there is room.
+    #[tactic(auto, using(crate::proofs::Words::words))]
+    pub fn of(word: &[u8]) -> Self
+        ensures { length word.now ≤ N → result ≡ word.now }
+    {
+        let mut bytes = [0; N];
+        let len = word.len();
+        if N < len {
+            return Text::new();
+        }
+        bytes[..len].copy_from_slice(word);
+        Text::first(bytes, len)
+    }
+
     // A byte behind the text, where there is room.
     pub fn push(&mut self, b: u8)
         ensures { length self.old < N → self.new ≡ self.old ++ b ∷ [] }

@@ -6,11 +6,10 @@ use mathlib.Core.List.{List, [], ◌∷◌, ◌++◌}
 use native.Mathlib.Omega.{arith}
 use lib.ListN.{replicate}
 use Rattle.vocabulary.specs.Outcome.{refusing}
-use Rattle.sheet.specs.Sheet.{Line}
 use Rattle.std.specs.Prelude.{Some, None}
-use Rattle.sheet.specs.Sheet.{bad, sheet_of}
+use Rattle.sheet.specs.Sheet.{Line, bad, sheet_of}
 use Rattle.calls.specs.Calls.{call, colour_calls, entry_calls, table_calls, sheet_to_calls}
-use Rattle.calls.proofs.Ends.{malformed_eight}
+use Rattle.calls.proofs.Ends.{refused_bad}
 
 -- entries that are missing are not touched: they have no call
 pub missing_untouched : (select entry n : ℕ) (follows : Bool)
@@ -43,5 +42,5 @@ unfolding table_calls entry_calls
 no_address_between select entry v l = refl
 
 -- a malformed sheet is refusal 8, whatever the buffer, an empty one too: 7 never comes first
-pub eight_first : (t out : List ℕ) (n : ℕ) → sheet_of t ≡ bad (suc n) → sheet_to_calls t out ≡ refusing 8 (suc n) out
-eight_first t out n e = sym (malformed_eight t out n (sym e))
+pub eight_first : (t out : List ℕ) (n : ℕ) → sheet_of t ≡ bad n → sheet_to_calls t out ≡ refusing 8 n out
+eight_first t out n e = sym (refused_bad t out n (sym e))

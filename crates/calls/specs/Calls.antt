@@ -4,7 +4,7 @@ use Rattle.vocabulary.specs.Refusal.{Row, ◌when◌, refusal_of}
 use Rattle.vocabulary.specs.declared.Refusal.TheVariants.{Malformed, ShortBuffer}
 use Rattle.vocabulary.specs.Outcome.{Outcome, accepting, answered_at}
 use Rattle.sheet.specs.Sheet.{Line}
-use Rattle.std.specs.Prelude.{Some, None}
+use Rattle.std.specs.Prelude.{Some, None, is_some}
 use Rattle.sheet.specs.Sheet.{Reading, sheet_of, lines_of, bad_line, is_bad, registers_of, overlays_of, colours_of}
 use Rattle.sheet.specs.Sheet.{red_of, green_of, blue_of, pasted}
 
@@ -35,16 +35,12 @@ unfoldable pub entry_calls : ℕ → ℕ → Bool → Line → List Call
 entry_calls select entry follows (Some v) = address_calls follows entry ++ colour_calls select v
 entry_calls select entry follows None = []
 
-abbrev pub is_there : Line → Bool
-is_there (Some v) = true
-is_there None = false
-
 -- A table's calls, from an entry on: "An address write comes before the first entry of each table and where an entry's
 -- number isn't the one before plus 1."
 unfoldable pub table_calls : ℕ → ℕ → Bool → List Line → List Call
 table_calls select entry follows [] = []
 table_calls select entry follows (x ∷ l) =
-    entry_calls select entry follows x ++ table_calls select (entry + 1) (is_there x) l
+    entry_calls select entry follows x ++ table_calls select (entry + 1) (is_some x) l
 
 -- A sheet's calls: registers, each overlay entry as three writes to 3, each colour as three writes to 1.
 abbrev pub tables_calls : List Line → List Call

@@ -1,9 +1,7 @@
--- What the helpers of the call list go by: the count of a table's calls, and a good sheet's lines as they are kept.
-use Rattle.std.specs.Prelude.{ℕ, ◌+◌, ◌<◌, ◌≡◌, Bool, List, [], ◌∷◌, length, get_or}
-use Rattle.sheet.specs.Sheet.{Line}
-use Rattle.std.specs.Prelude.{Some, None}
-use Rattle.sheet.specs.Sheet.{keys}
-use Rattle.calls.specs.Calls.{address_calls, is_there}
+-- What the helpers of the call list go by: the count of a table's calls, and what a good sheet's lines are.
+use Rattle.std.specs.Prelude.{ℕ, ◌+◌, ◌<◌, ◌≡◌, Bool, List, [], ◌∷◌, length, get_or, Some, None, is_some, IsSomeAnd}
+use Rattle.sheet.specs.Sheet.{Line, keys}
+use Rattle.calls.specs.Calls.{address_calls}
 
 -- how many calls an entry and a table have, the same for both tables (proofs/Count.antt, `count_is`)
 unfoldable pub entry_count : Bool → Line → ℕ
@@ -12,12 +10,12 @@ entry_count follows None = 0
 
 unfoldable pub table_count : Bool → List Line → ℕ
 table_count follows [] = 0
-table_count follows (x ∷ l) = entry_count follows x + table_count (is_there x) l
+table_count follows (x ∷ l) = entry_count follows x + table_count (is_some x) l
 
--- a good sheet's lines as they are kept: one for each key, and the registers' are bytes
-pub record Kept (kept : List ℕ) : Type 0 where
-  pub long : length kept ≡ keys
-  pub read : get_or kept 1 0 < 256
-  pub blink : get_or kept 2 0 < 256
-  pub control : get_or kept 3 0 < 256
-  pub timing : get_or kept 4 0 < 256
+-- a good sheet's lines: one for each key, and the registers' are there and bytes
+pub record Kept (lines : List Line) : Type 0 where
+  pub long : length lines ≡ keys
+  pub read : IsSomeAnd (get_or lines 1 None) (λ v. v < 256)
+  pub blink : IsSomeAnd (get_or lines 2 None) (λ v. v < 256)
+  pub control : IsSomeAnd (get_or lines 3 None) (λ v. v < 256)
+  pub timing : IsSomeAnd (get_or lines 4 None) (λ v. v < 256)

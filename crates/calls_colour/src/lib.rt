@@ -4,30 +4,18 @@
 // them keep their values. Not modelled: as in calls.
 #![tactic(auto)]
 
-ghost use Rattle.std.specs.Prelude.{◌≡◌, ◌+◌, ◌%◌, ◌≤◌, ◌<◌, length};
+ghost use Rattle.std.specs.Prelude.{◌≤◌, length};
 ghost use Rattle.sheet.specs.Sheet.{Wrote};
 ghost use Rattle.calls.specs.Calls.{colour_calls, call_bytes};
 
-// The low four bits.
-fn low(x: u16) -> u8
-    ensures { result ≡ x % 16 }
+// A colour's three writes, at a buffer's start: how many bytes they are.
+pub fn put_colour(out: &mut [u8], select: u8, v: u16) -> usize
+    requires { 6 ≤ length out.old }
+    ensures { Wrote out.old 0 (call_bytes (colour_calls select v)) result out.new }
 {
-    (x % 16) as u8
-}
-
-// A colour's three writes.
-pub fn put_colour(out: &mut [u8], at: usize, select: u8, v: u16) -> usize
-    requires { (v < 4096) × (at + 6 ≤ length out.old) }
-    ensures { Wrote out.old at (call_bytes (colour_calls select v)) result out.new }
-{
-    let r = low(v / 16 / 16);
-    let g = low(v / 16);
-    let b = low(v);
-    out[at] = select;
-    out[at + 1] = r;
-    out[at + 2] = select;
-    out[at + 3] = g;
-    out[at + 4] = select;
-    out[at + 5] = b;
-    at + 6
+    let red = (v / 16 / 16) as u8;
+    let green = (v / 16 % 16) as u8;
+    let blue = (v % 16) as u8;
+    out[..6].copy_from_slice(&[select, red, select, green, select, blue]);
+    6
 }

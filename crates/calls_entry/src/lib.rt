@@ -5,48 +5,30 @@
 // calls.
 #![tactic(auto)]
 
-ghost use Rattle.std.specs.Prelude.{[], ◌∷◌, ◌+◌, ◌≤◌, length};
+ghost use Rattle.std.specs.Prelude.{◌≤◌, length};
 ghost use Rattle.sheet.specs.Sheet.{Wrote};
-ghost use Rattle.sheet.specs.Kept.{line_for};
-ghost use Rattle.calls.specs.Calls.{call, address_calls, entry_calls, call_bytes};
+ghost use Rattle.calls.specs.Calls.{address_calls, entry_calls, call_bytes};
 
-// A call into a buffer from a place on.
-fn put_call(out: &mut [u8], at: usize, select: u8, byte: u8) -> usize
-    requires { at + 2 ≤ length out.old }
-    ensures { Wrote out.old at (call_bytes (call select byte ∷ [])) result out.new }
-{
-    out[at] = select;
-    out[at + 1] = byte;
-    at + 2
-}
-
-// An address write, unless the entry follows the one before it.
-fn put_address(out: &mut [u8], at: usize, follows: bool, entry: u8) -> usize
-    requires { at + length (call_bytes (address_calls follows entry)) ≤ length out.old }
-    ensures { Wrote out.old at (call_bytes (address_calls follows entry)) result out.new }
+// An address write at a buffer's start, unless the entry follows the one before it: how many bytes it is.
+fn put_address(out: &mut [u8], follows: bool, entry: u8) -> usize
+    requires { length (call_bytes (address_calls follows entry)) ≤ length out.old }
+    ensures { Wrote out.old 0 (call_bytes (address_calls follows entry)) result out.new }
 {
     if follows {
-        return at;
+        return 0;
     }
-    put_call(out, at, 0, entry)
+    out[..2].copy_from_slice(&[0, entry]);
+    2
 }
 
-// An entry's calls; none where it is missing.
-pub fn put_entry(
-    out: &mut [u8],
-    at: usize,
-    select: u8,
-    entry: u8,
-    follows: bool,
-    kept: u16,
-) -> usize
-    requires { at + length (call_bytes (entry_calls select entry follows (line_for kept))) ≤ length out.old }
-    ensures { Wrote out.old at (call_bytes (entry_calls select entry follows (line_for kept))) result
-        out.new }
+// An entry's calls at a buffer's start, none where it is missing: how many bytes they are.
+pub fn put_entry(out: &mut [u8], select: u8, entry: u8, follows: bool, line: Option<u16>) -> usize
+    requires { length (call_bytes (entry_calls select entry follows line)) ≤ length out.old }
+    ensures { Wrote out.old 0 (call_bytes (entry_calls select entry follows line)) result out.new }
 {
-    if 4096 <= kept {
-        return at;
-    }
-    let from = put_address(out, at, follows, entry);
-    calls_colour::put_colour(out, from, select, kept)
+    let Some(v) = line else {
+        return 0;
+    };
+    let n = put_address(out, follows, entry);
+    n + calls_colour::put_colour(&mut out[n..], select, v)
 }

@@ -11,7 +11,7 @@ use Rattle.vocabulary.specs.Outcome.{accepting}
 use Rattle.vocabulary.proofs.Range.{holds_passes, not_fails}
 use Rattle.vocabulary.proofs.Refusals.{refusal_is, refusal_none}
 use Rattle.vocabulary.proofs.Outcome.{refused_as, accepted_does}
-use Rattle.expand.specs.declared.Expanded.TheVariants.{Ten, Refused}
+use Rattle.std.specs.Prelude.{Ok, Err}
 use Rattle.expand.specs.Expand.{repeated, filled, ten, refusals, expansion, meaning}
 use Rattle.expand.proofs.Filled.{filled_below, filled_bit, filled_again, filled_first}
 use Rattle.expand.proofs.Filled.{filled_zero, filled_ones}
@@ -19,7 +19,7 @@ use Rattle.expand.proofs.Filled.{filled_zero, filled_ones}
 -- ---- What is refused
 
 module _ (w v : ℕ) where
-  refused : (3 < w → w < 9 → v < 2 ^ w → ⊥) → meaning Refused ≡ expansion w v
+  refused : (3 < w → w < 9 → v < 2 ^ w → ⊥) → meaning (Err OutOfRange) ≡ expansion w v
   unfolding expansion
   refused n =
       sym (refused_as 8 0 tt _
@@ -27,11 +27,11 @@ module _ (w v : ℕ) where
       (not_fails _ (λ g. n g.0 g.1.0 g.1.1.0))))
 
   -- a width that is not there is refusal 9, whatever the value
-  pub width_refused : (3 < w → w < 9 → ⊥) → meaning Refused ≡ expansion w v
+  pub width_refused : (3 < w → w < 9 → ⊥) → meaning (Err OutOfRange) ≡ expansion w v
   width_refused n = refused (λ a b c. n a b)
 
   -- so is a value that the width does not hold
-  pub value_refused : 2 ^ w ≤ v → meaning Refused ≡ expansion w v
+  pub value_refused : 2 ^ w ≤ v → meaning (Err OutOfRange) ≡ expansion w v
   value_refused h = refused (λ a b c. omega arith)
 
   -- and every other is accepted
@@ -41,7 +41,7 @@ module _ (w v : ℕ) where
       sym (accepted_does 0 tt _ (refusal_none (refusals w v) (holds_passes _ (a, (b, (h, tt))), tt)))
 
   -- with the rule's value, however it was found
-  pub expansion_ten : {t : ℕ} → t ≡ ten w v → 3 < w → w < 9 → v < 2 ^ w → meaning (Ten t) ≡ expansion w v
+  pub expansion_ten : {t : ℕ} → t ≡ ten w v → 3 < w → w < 9 → v < 2 ^ w → meaning (Ok t) ≡ expansion w v
   expansion_ten e a b h = rw e (expansion_accepted a b h)
 
 -- ---- The ten bits

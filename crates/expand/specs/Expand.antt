@@ -1,13 +1,12 @@
 -- A component of 4 to 8 bits as ten: source document 001, Tables 23 to 25, and document 02, P4. A table's row has the
 -- component's bits from the top, and from the top again, until ten are filled.
-use Rattle.std.specs.Prelude.{ℕ, zero, suc, ◌+◌, ◌*◌, ◌-◌, ◌^◌, ◌%◌, List, [], ◌∷◌}
+use Rattle.std.specs.Prelude.{ℕ, zero, suc, ◌+◌, ◌*◌, ◌-◌, ◌^◌, ◌%◌, List, [], ◌∷◌, Result, Ok, Err}
 use Rattle.vocabulary.specs.Line.{line}
 use Rattle.vocabulary.specs.Range.{below, fails}
 use Rattle.vocabulary.specs.Refusal.{Row, ◌when◌, number, refusal_of}
+use Rattle.vocabulary.specs.declared.Refusal.{Refusal}
 use Rattle.vocabulary.specs.declared.Refusal.TheVariants.{OutOfRange}
 use Rattle.vocabulary.specs.Outcome.{Outcome, accepting, refusing, answered}
-use Rattle.expand.specs.declared.Expanded.{Expanded}
-use Rattle.expand.specs.declared.Expanded.TheVariants.{Ten, Refused}
 
 -- the bits of a component v of w bits, from its top, over and over: the one at place i
 abbrev pub repeated : ℕ → ℕ → ℕ → ℕ
@@ -31,6 +30,6 @@ unfoldable pub expansion : ℕ → ℕ → Outcome Unit
 expansion w v = answered (refusal_of (refusals w v)) tt (accepting (ten w v) 0 tt)
 
 -- what each answer means
-abbrev pub meaning : Expanded → Outcome Unit
-meaning (Ten t) = accepting t 0 tt
-meaning Refused = refusing (number OutOfRange) 0 tt
+abbrev pub meaning : Result ℕ Refusal → Outcome Unit
+meaning (Ok t) = accepting t 0 tt
+meaning (Err r) = refusing (number r) 0 tt

@@ -8,16 +8,11 @@
 ghost use Rattle.std.specs.Prelude.{◌≡◌};
 ghost use Rattle.expand.specs.Expand.{ten};
 
-#[derive(Clone, Copy)]
-pub enum Expanded {
-    Ten(u16),
-    Refused,
-}
-
 // A byte as ten bits, by the 8-bit rule: chip C's port 6, at each byte of which a table would be built anew.
+#[tactic(auto, using(crate::proofs::Rules::ten_eight))]
 pub fn eight(v: u8) -> u16
     ensures { result ≡ ten 8 v }
 {
-    let w = v as u16;
+    let w = u16::from(v);
     4 * w + w / 64
 }

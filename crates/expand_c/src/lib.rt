@@ -8,15 +8,15 @@ ghost use Rattle.std.specs.Prelude.{◌≡◌};
 ghost use Rattle.vocabulary.specs.Reply.{decoded, telling};
 ghost use Rattle.expand.specs.Expand.{expansion, meaning};
 
-use expand::Expanded;
+use vocabulary::Refusal;
 
 // The number that tells C an answer.
-fn told(e: Expanded) -> u64
+fn told(e: Result<u16, Refusal>) -> u64
     ensures { decoded result ≡ telling (meaning e) }
 {
     match e {
-        Expanded::Ten(t) => reply::packed(0, t, 0, 0),
-        Expanded::Refused => reply::packed(9, 0, 0, 0),
+        Ok(t) => reply::packed(0, t, 0, 0),
+        Err(r) => reply::packed(u8::from(r), 0, 0, 0),
     }
 }
 

@@ -5,9 +5,10 @@ use native.Mathlib.Nat.{mul-le-mul, mul-le-mul_right, mod-eq_of_lt, pow-le-pow_r
 use native.Mathlib.Omega.{arith}
 use lib.Pow.{pow-add, pow_pos}
 use Rattle.vocabulary.proofs.Cases.{under}
-use Rattle.expand.specs.declared.Expanded.TheVariants.{Ten, Refused}
+use Rattle.std.specs.Prelude.{Ok, Err}
+use Rattle.vocabulary.specs.declared.Refusal.TheVariants.{OutOfRange}
 use Rattle.expand.specs.Expand.{ten, expansion, meaning}
-use Rattle.expand.proofs.Width.{value_refused, expansion_ten, ten_below}
+use Rattle.expand.proofs.Width.{width_refused, value_refused, expansion_ten, ten_below}
 use Rattle.expand.proofs.Rules.{ten_thrice}
 
 -- at 8 bits the table's number
@@ -15,10 +16,10 @@ module _ (w v : ℕ) (low : 8 ≤ w) (high : w < 9) where
   eight : w ≡ 8
   eight = omega arith
 
-  pub eight_refused : 256 ≤ v → meaning Refused ≡ expansion w v
+  pub eight_refused : 256 ≤ v → meaning (Err OutOfRange) ≡ expansion w v
   eight_refused h = value_refused w v (rw eight h)
 
-  pub eight_listed : {t : ℕ} → v < 256 → t ≡ ten 8 v → meaning (Ten t) ≡ expansion w v
+  pub eight_listed : {t : ℕ} → v < 256 → t ≡ ten 8 v → meaning (Ok t) ≡ expansion w v
   eight_listed h f = expansion_ten w v (rw eight f) (omega arith) high (rw eight h)
 
 -- as the processor shifts: what goes over 64 bits is lost
@@ -71,10 +72,22 @@ module _ (w : ℕ) (high : w < 8) where
         omega (arith, mul-le-mul_right (2 ^ w) square, cube) in
         rw row_whole ((le-div_iff_mul-le (pow_pos (3 * w - 10))).1 inside)
 
-    pub first_refused : 1024 ≤ first → meaning Refused ≡ expansion w v
+    pub first_refused : 1024 ≤ first → meaning (Err OutOfRange) ≡ expansion w v
     first_refused o = under v (2 ^ w) (λ h. absurd (omega (arith, o, first_ten h, ten_below w v))) (value_refused w v)
 
-    pub first_accepted : first < 1024 → meaning (Ten first) ≡ expansion w v
+    pub first_accepted : first < 1024 → meaning (Ok first) ≡ expansion w v
     first_accepted o =
         under v (2 ^ w) (λ h. expansion_ten w v (first_ten h) low (omega arith) h)
         (λ h. absurd (omega (arith, o, first_over h)))
+
+-- what an expansion ends by, and what its rows need
+pub ruleset rows = (
+  width_refused,
+  eight_refused,
+  eight_listed,
+  once_row,
+  twice_row,
+  row_fits,
+  first_refused,
+  first_accepted,
+)

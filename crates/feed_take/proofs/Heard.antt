@@ -7,18 +7,16 @@ use mathlib.Core.List.{List, []}
 use lib.ListN.{length, take}
 use borrow.Author.Tests.{ltb-true, ltb-false}
 use Rattle.vocabulary.specs.Choice.{pick}
-use Rattle.answers.specs.Answers.{Says}
 use Rattle.turns.specs.Turns.{Took}
 use Rattle.board.specs.declared.Board.{Board}
 use Rattle.board.specs.declared.Step.{Step}
-use Rattle.board.specs.Board.{Whole, whole, board_turn, step, Answers, StepTook}
-use Rattle.board.proofs.Steps.{says_text}
+use Rattle.board.specs.Board.{Whole, whole, board_turn, says, Answers, StepTook}
 use Rattle.hold.specs.declared.Heard.{Heard}
 use Rattle.hold.specs.Hold.{Hold, hold, before, up_to, held_of, Hears}
 use Rattle.feed.specs.Feed.{desk, fed}
 use Rattle.feed.proofs.Bytes.{fed_line, fed_part}
 
-module _ {s : Step} {k : Heard} (t bytes : List ℕ) (h : Hold) (cs os queue map table page : List ℕ)
+module _ (s : Step) {k : Heard} (t bytes : List ℕ) (h : Hold) (cs os queue map table page : List ℕ)
     (n : Hears k t h bytes) where
   pub took_line : (w : Whole) → k.ends ≡ true → StepTook s cs os queue map table page (board_turn k.line w)
       → Took (Answers s page) (desk (whole s.board cs os queue map table page) (hold bytes k.len))
@@ -33,15 +31,14 @@ module _ {s : Step} {k : Heard} (t bytes : List ℕ) (h : Hold) (cs os queue map
         leaves = ap (λ (x : Whole). desk x (hold bytes k.len)) b.leaves ∙ ap (desk _) z;
       })
 
-  pub took_part : (b : Board) → k.ends ≡ false → s.board ≡ b → Says s.text [] → s.listed ≡ 0
+  pub took_part : (b : Board) {text : List ℕ} → k.ends ≡ false → s ≡ says b text → text ≡ []
       → Took (Answers s page) (desk (whole s.board cs os queue map table page) (hold bytes k.len))
       (fed (take (up_to t) t) (desk (whole b cs os queue map table page) h))
   unfolding pick
-  took_part b g is u z =
+  took_part b g is u =
       let g' = ltb-false (before t) (length t) (sym n.ends ∙ g) in
       let m : hold bytes k.len ≡ held_of t h = rw g at n.holds in
-      let q : s ≡ step b s.text 0 = rw (sym is, sym z) in
-      rw (fed_part t _ h g', q) (record {
-        says = says_text b s.text page u;
+      rw (fed_part t _ h g', is) (record {
+        says = u;
         leaves = ap (desk (whole b cs os queue map table page)) m;
       })

@@ -4,35 +4,24 @@
 // for any board, hold, text, tables and page. All of them are lent but the board's states. Not modelled: as there.
 #![tactic(auto)]
 
-ghost use Rattle.std.specs.Prelude.{◌≡◌, [], take as first_of};
-ghost use Rattle.answers.specs.Answers.{Says};
+ghost use Rattle.std.specs.Prelude.{◌≡◌, take as first_of};
 ghost use Rattle.board.specs.Board.{whole};
 ghost use Rattle.hold.specs.Hold.{hold as held, up_to};
 ghost use Rattle.feed.specs.Feed.{desk, fed};
 ghost use Rattle.feed_take.specs.Fed.{FedTook};
 
-use board::{Board, Step};
+use board::{Board, Step, says};
 
 // The board after some bytes with what they answer, how many bytes of a line are held, and how many were taken.
-#[derive(Clone, Copy)]
+#[derive(Drop)]
 pub struct Fed {
     pub step: Step,
     pub len: usize,
     pub taken: usize,
 }
 
-// No answer: the board as it is.
-fn silent(board: Board) -> Step
-    ensures { (result.board ≡ board) × Says result.text [] × (result.listed ≡ 0) }
-{
-    Step {
-        board: board,
-        text: answers::empty(),
-        listed: 0,
-    }
-}
-
 // The bytes of a log up to the first LF, or all.
+// Stays: lent slices one by one. Tried as a struct of them: what a callee leaves is lost where it is passed on whole.
 pub fn take(
     board: Board,
     len: usize,
@@ -54,15 +43,14 @@ pub fn take(
 {
     let h = hold_hear::hear(text, hold, len);
     if h.ends {
-        let line = h.line;
         return Fed {
-            step: board_answer::answer(board, line, colours, overlays, queue, map, table, page),
+            step: board_answer::answer(board, h.line, colours, overlays, queue, map, table, page),
             len: h.len,
             taken: h.taken,
         };
     }
     Fed {
-        step: silent(board),
+        step: says(board, answers::empty()),
         len: h.len,
         taken: h.taken,
     }

@@ -40,13 +40,13 @@ abbrev pub tried : Chip → ℕ
 tried c = refusal_of (standing (short c) (outside c))
 
 -- where nothing fails, the chip is in range
-pub known : (c : Chip) → tried c ≡ 0 → InRange c
-known c e = let (l, r) = standing_clear _ _ e in in_range_lem c (passes_holds _ l) (passes_holds _ r)
+pub known : (c : Chip) → 0 ≡ tried c → InRange c
+known c e = let (l, r) = standing_clear _ _ (sym e) in in_range_lem c (passes_holds _ l) (passes_holds _ r)
 
 -- so the accessed entry lies in its table
-module _ (s : State) (cs os : List ℕ) {n : ℕ} (e : n ≡ tried (chip s cs os)) (h : n ≡ 0) where
+module _ (s : State) (cs os : List ℕ) (e : 0 ≡ tried (chip s cs os)) where
   inside : InRange (chip s cs os)
-  inside = known _ (sym e ∙ h)
+  inside = known _ e
 
   pub colour_room : s.address < 256 → 3 * s.address + 3 ≤ length cs
   colour_room f = omega (arith, inside.colours)
@@ -147,34 +147,33 @@ select_same : (c : Chip) {j : ℕ} {k : Call} → Access k → select_of k ≡ j
 select_same c (writing b) e = rw e
 select_same c reading e = rw e
 
-module _ (s : State) (cs os : List ℕ) (a : Answer) {n : ℕ} {k : Call} (e : n ≡ tried (chip s cs os)) (u : Access k)
-  where
-    abbrev answers_as : (ds ps : List ℕ) {b : Answer} → a ≡ b → outcome a ds ps ≡ outcome b ds ps
-    answers_as ds ps f = ap (λ (x : Answer). outcome x ds ps) f
+module _ (s : State) (cs os : List ℕ) (a : Answer) {k : Call} (u : Access k) where
+  abbrev answers_as : (ds ps : List ℕ) {b : Answer} → a ≡ b → outcome a ds ps ≡ outcome b ds ps
+  answers_as ds ps f = ap (λ (x : Answer). outcome x ds ps) f
 
-    pub stopped : (n ≡ 0 → ⊥) → a ≡ refuse n s → outcome a cs os ≡ called k (chip s cs os)
-    stopped h f = answers_as cs os f ∙ access_stops _ u e h
+  pub stopped : {n : ℕ} → n ≡ tried (chip s cs os) → (n ≡ 0 → ⊥) → a ≡ refuse n s
+      → outcome a cs os ≡ called k (chip s cs os)
+  stopped e h f = answers_as cs os f ∙ access_stops _ u e h
 
-    pub unserved : n ≡ 0 → (select_of k ≡ 0 → ⊥) → (select_of k ≡ 1 → ⊥) → (select_of k ≡ 3 → ⊥) → (select_of k ≡ 4 → ⊥)
+  module _ (e : 0 ≡ tried (chip s cs os)) where
+    pub unserved : (select_of k ≡ 0 → ⊥) → (select_of k ≡ 1 → ⊥) → (select_of k ≡ 3 → ⊥) → (select_of k ≡ 4 → ⊥)
         → (select_of k ≡ 5 → ⊥) → (select_of k ≡ 6 → ⊥) → (select_of k ≡ 7 → ⊥) → a ≡ refuse 3 s
         → outcome a cs os ≡ called k (chip s cs os)
-    unserved h z i j l m o p f =
-        answers_as cs os f ∙ no_access_lem _ (known _ (sym e ∙ h)) u (others (select_of k) z i j l m o p)
+    unserved z i j l m o p f =
+        answers_as cs os f ∙ no_access_lem _ (known _ e) u (others (select_of k) z i j l m o p)
 
     -- the arm of select j, with the tables as it leaves them
-    pub served : {j v : ℕ} {t t' : State} (ds ps : List ℕ) → n ≡ 0 → select_of k ≡ j → a ≡ accept v t → t ≡ t' → Served j
+    pub served : {j v : ℕ} {t t' : State} (ds ps : List ℕ) → select_of k ≡ j → a ≡ accept v t → t ≡ t' → Served j
         → accepting v 0 (chip t' ds ps) ≡ does (at_select j k) (chip s cs os)
         → outcome a ds ps ≡ called k (chip s cs os)
-    served {j} ds ps h m f g r w =
-        answers_as ds ps f
-        ∙ (rw g w
-        ∙ (select_same _ u m ∙ access_goes _ (known _ (sym e ∙ h)) u (rw m r)))
+    served {j} ds ps m f g r w =
+        answers_as ds ps f ∙ (rw g w ∙ (select_same _ u m ∙ access_goes _ (known _ e) u (rw m r)))
 
     -- the same of an arm that answers the state as it is
-    pub kept : {j v : ℕ} → n ≡ 0 → select_of k ≡ j → a ≡ accept v s → Served j
+    pub kept : {j v : ℕ} → select_of k ≡ j → a ≡ accept v s → Served j
         → accepting v 0 (chip s cs os) ≡ does (at_select j k) (chip s cs os)
         → outcome a cs os ≡ called k (chip s cs os)
-    kept h m f r w = served cs os h m f refl r w
+    kept m f r w = served cs os m f refl r w
 
 -- ---- The pointer's three places
 
@@ -191,3 +190,5 @@ unfolding component_at
 is_blue zero h g = absurd (h refl)
 is_blue (suc zero) h g = absurd (g refl)
 is_blue (suc (suc p)) h g = refl
+
+pub ruleset places = (is_red, is_green, is_blue)

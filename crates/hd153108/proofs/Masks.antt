@@ -101,6 +101,14 @@ unfolding masked
 masked_zero zero o r b = refl
 masked_zero (suc w) o r b = rw (masked_zero w o (r / 2) (b / 2), line_zero o (r % 2) (b % 2))
 
+-- lines above a number's own read nothing: the number's read the same among more
+pub masked_among : (w k : ℕ) (o : Bool) (r b x : ℕ) → x < 2 ^ w → masked (k + w) o r b x ≡ masked w o r b x
+unfolding masked
+masked_among zero k o r b x l = let z : x ≡ 0 = omega arith in rw z (masked_zero (k + zero) o r b)
+masked_among (suc w) k o r b x l =
+    let p : 2 ^ suc w ≡ 2 ^ w * 2 = rw pow-suc in
+    rw add-suc (rw (masked_among w k o (r / 2) (b / 2) (x / 2) (omega arith)))
+
 -- ---- as document 01 says it
 module _ (w k : ℕ) (r b x : ℕ) (h : k < w) where
   -- a line whose read mask bit is 1 reads 0

@@ -6,20 +6,24 @@
 
 ghost use Rattle.std.specs.Prelude.{◌≡◌, ◌+◌, ◌*◌, ◌≤◌, ◌<◌, length, get_or};
 ghost use Rattle.vocabulary.specs.Component.{component_at};
-ghost use Rattle.hd153108.specs.Hd153108.{stepped as steppedOf, accept};
+ghost use Rattle.hd153108.specs.Hd153108.{stepped as stepped_of, accept};
 
 use hd153108::{Answer, State};
-use hd153108_port::{accepted, port};
+use hd153108_port::accepted;
 
 // The pointer's move after a data read.
+#[tactic(auto, using(hd153108::proofs::Access::places), unfolding(hd153108::specs::Hd153108::stepped))]
 fn stepped(s: State, after: u8) -> State
-    ensures { result ≡ steppedOf (component_at s.pointer) after s }
+    ensures { result ≡ stepped_of (component_at s.pointer) after s }
 {
-    let pointer = s.pointer;
-    match pointer {
-        0 => port(s, s.address, 1, s.red, s.green),
-        1 => port(s, s.address, 2, s.red, s.green),
-        _ => port(s, after, 0, s.red, s.green),
+    match s.pointer {
+        0 => State { pointer: 1, ..s },
+        1 => State { pointer: 2, ..s },
+        _ => State {
+            address: after,
+            pointer: 0,
+            ..s
+        },
     }
 }
 
@@ -27,7 +31,7 @@ fn stepped(s: State, after: u8) -> State
 pub fn data_read(s: State, t: &[u8], e: usize, after: u8) -> Answer
     requires { (3 * e + 3 ≤ length t.now) × (s.pointer < 3) }
     ensures { result
-        ≡ accept (get_or t.now (3 * e + s.pointer) 0) (steppedOf (component_at s.pointer) after s) }
+        ≡ accept (get_or t.now (3 * e + s.pointer) 0) (stepped_of (component_at s.pointer) after s) }
 {
     let at = 3 * e + (s.pointer as usize);
     accepted(t[at], stepped(s, after))

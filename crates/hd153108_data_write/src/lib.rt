@@ -9,17 +9,18 @@ ghost use Rattle.vocabulary.specs.Component.{component_at, put};
 ghost use Rattle.hd153108.specs.Hd153108.{stepped, latched, stored};
 
 use hd153108::State;
-use hd153108_port::port;
+use vocabulary::Colour;
 
 // A colour into a table.
-fn put_colour(t: &mut [u8], e: usize, r: u8, g: u8, b: u8)
+#[tactic(auto, unfolding(vocabulary::specs::Component::put))]
+fn put_colour(t: &mut [u8], e: usize, c: Colour)
     requires { 3 * e + 3 ≤ length t.old }
-    ensures { t.new ≡ put e r g b t.old }
+    ensures { t.new ≡ put e c.red c.green c.blue t.old }
 {
     let at = 3 * e;
-    t[at] = r;
-    t[at + 1] = g;
-    t[at + 2] = b;
+    t[at] = c.red;
+    t[at + 1] = c.green;
+    t[at + 2] = c.blue;
 }
 
 // A data write to either table: e is the entry, after the address that follows it.
@@ -28,13 +29,30 @@ pub fn data_write(s: State, byte: u8, t: &mut [u8], e: usize, after: u8) -> Stat
     ensures { (result ≡ stepped (component_at s.pointer) after (latched (component_at s.pointer) byte s))
         × (t.new ≡ stored (component_at s.pointer) e byte s t.old) }
 {
-    let pointer = s.pointer;
-    match pointer {
-        0 => port(s, s.address, 1, byte % 16, s.green),
-        1 => port(s, s.address, 2, s.red, byte % 16),
+    let low = byte % 16;
+    match s.pointer {
+        0 => State {
+            pointer: 1,
+            red: low,
+            ..s
+        },
+        1 => State {
+            pointer: 2,
+            green: low,
+            ..s
+        },
         _ => {
-            put_colour(t, e, s.red, s.green, byte % 16);
-            port(s, after, 0, s.red, s.green)
+            let colour = Colour {
+                red: s.red,
+                green: s.green,
+                blue: low,
+            };
+            put_colour(t, e, colour);
+            State {
+                address: after,
+                pointer: 0,
+                ..s
+            }
         }
     }
 }

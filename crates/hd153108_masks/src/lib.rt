@@ -11,10 +11,8 @@ ghost use Rattle.hd153108.specs.Hd153108.{masked};
 pub fn masked_byte(off: bool, read: u8, blink: u8, byte: u8) -> u8
     ensures { result ≡ masked 8 off read blink byte }
 {
-    if off {
-        return byte & (255 - read) & blink;
-    }
-    byte & (255 - read)
+    let seen = byte & (255 - read);
+    if off { seen & blink } else { seen }
 }
 
 // The two lines of an overlay number: bits 0, 1 of the overlay control mask them, and bits 2, 3 blink mask them.
@@ -22,8 +20,5 @@ pub fn masked_number(off: bool, control: u8, number: u8) -> u8
     requires { number < 4 }
     ensures { result ≡ masked 2 off control (control / 4) number }
 {
-    if off {
-        return number & (255 - control) & (control / 4);
-    }
-    number & (255 - control)
+    masked_byte(off, control, control / 4, number)
 }

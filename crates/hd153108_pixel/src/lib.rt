@@ -3,7 +3,8 @@
 // Source document 003, Table 4, with document 01's rulings and request P3, decides; the rule is `pixel_part` of
 // hd153108's specs/Hd153108.antt, which is `called` of `pixels` (`pixel_lent` says that they are one). The shown
 // colour is handed back as a part of a lent table, not copied, and which part of which table is promised too
-// (specs/Place.antt); hd153108_pixel_c has the copy for C, and hd153108_pixel_refusal the refusal. The call changes
+// (specs/Place.antt); hd153108_pixel_c has the copy that hd153108_c
+// exports, and hd153108_pixel_refusal the refusal. The call changes
 // neither state nor table. Not modelled: analogue output, blanking, pipeline delay.
 #![tactic(auto)]
 
@@ -28,16 +29,15 @@ pub fn pixel<'a>(
         × (0 < length result.now
         → result.ref_ptr ≡ shown_place enable number byte s colours.entry.ref_ptr overlays.entry.ref_ptr) }
 {
-    let p = picked(s, enable, number, byte, colours, overlays);
-    match p {
-        Pick::Colour(e) => {
+    match picked(s, enable, number, byte, colours, overlays) {
+        Ok(Pick::Colour(e)) => {
             let at = 3 * e;
             &colours[at..at + 3]
         }
-        Pick::Overlay(e) => {
+        Ok(Pick::Overlay(e)) => {
             let at = 3 * e;
             &overlays[at..at + 3]
         }
-        Pick::Refused(_) => &colours[0..0],
+        Err(_) => &colours[0..0],
     }
 }

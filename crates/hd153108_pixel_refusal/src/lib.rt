@@ -8,9 +8,10 @@ ghost use Rattle.std.specs.Prelude.{◌≡◌};
 ghost use Rattle.hd153108.specs.Hd153108.{chip, pixels, called};
 
 use hd153108::State;
-use hd153108_shown::{Pick, picked};
+use hd153108_shown::picked;
 
 // The refusal of a pixel, 0 if none.
+#[tactic(auto, using(hd153108_shown::proofs::Rule::accepts, hd153108_shown::proofs::Rule::refuses))]
 pub fn zk_a_pixel_refusal(
     s: State,
     enable: u8,
@@ -22,10 +23,8 @@ pub fn zk_a_pixel_refusal(
     ensures { result
         ≡ (called (pixels enable number byte) (chip s colours.now overlays.now)).refusal }
 {
-    let p = picked(s, enable, number, byte, colours, overlays);
-    match p {
-        Pick::Colour(_) => 0,
-        Pick::Overlay(_) => 0,
-        Pick::Refused(n) => n,
+    match picked(s, enable, number, byte, colours, overlays) {
+        Ok(_) => 0,
+        Err(r) => u8::from(r),
     }
 }

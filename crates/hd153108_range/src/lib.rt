@@ -6,10 +6,11 @@
 
 ghost use Rattle.std.specs.Prelude.{◌≡◌};
 ghost use Rattle.vocabulary.specs.Range.{meets, fails};
-ghost use Rattle.vocabulary.specs.Refusal.{refusal_of, standing as standingRows};
+ghost use Rattle.vocabulary.specs.Refusal.{refusal_of, refusal_in, standing as standing_rows};
 ghost use Rattle.hd153108.specs.Hd153108.{on_time, period, is_off, lengths_of, state_ranges};
 
 use hd153108::{Clock, State};
+use vocabulary::Refusal;
 
 // On for 4(n+1) ticks, n the low four bits.
 fn on_time(timing: u8) -> u8
@@ -26,6 +27,7 @@ pub fn period_of(timing: u8) -> u8
 }
 
 // Whether a blink clock is in its off time.
+#[tactic(auto, unfolding(hd153108::specs::Hd153108::is_off))]
 pub fn blink_off(k: Clock) -> bool
     ensures { result ≡ is_off k }
 {
@@ -36,34 +38,22 @@ pub fn blink_off(k: Clock) -> bool
 fn good(s: State) -> bool
     ensures { result ≡ meets (state_ranges s) }
 {
-    if 3 <= s.pointer {
+    if s.control & 176 != 0 || 3 <= s.pointer || 16 <= s.red || 16 <= s.green {
         return false;
     }
-    if 16 <= s.red {
-        return false;
-    }
-    if 16 <= s.green {
-        return false;
-    }
-    if s.control & 176 != 0 {
-        return false;
-    }
-    let k = s.clock;
-    k.position < period_of(k.timing)
+    s.clock.position < period_of(s.clock.timing)
 }
 
 // What every call tries first: the lengths of the lent tables, then the state's ranges.
-pub fn standing(s: State, colours: usize, overlays: usize) -> u8
-    ensures { result ≡ refusal_of (standingRows (fails (lengths_of colours overlays)) (fails (state_ranges s))) }
+pub fn standing(s: State, colours: usize, overlays: usize) -> Result<(), Refusal>
+    ensures { refusal_in result
+        ≡ refusal_of (standing_rows (fails (lengths_of colours overlays)) (fails (state_ranges s))) }
 {
-    if colours != 768 {
-        return 1;
-    }
-    if overlays != 12 {
-        return 1;
+    if colours != 768 || overlays != 12 {
+        return Err(Refusal::LentLength);
     }
     if !good(s) {
-        return 9;
+        return Err(Refusal::OutOfRange);
     }
-    0
+    Ok(())
 }

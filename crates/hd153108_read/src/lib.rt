@@ -9,21 +9,20 @@ ghost use Rattle.hd153108.specs.Hd153108.{chip, outcome, reads, called};
 
 use hd153108::{Answer, State};
 use hd153108_data_read::data_read;
-use hd153108_port::{accepted, next_colour, next_overlay, port, refused};
+use hd153108_port::{accepted, next_colour, next_overlay, refused};
 use hd153108_range::standing;
+use vocabulary::Refusal;
 
 // A read access. An address read sets the pointer to red, and a data read steps it.
 pub fn zk_a_read(s: State, select: u8, colours: &[u8], overlays: &[u8]) -> Answer
     ensures { outcome result colours.now overlays.now
         ≡ called (reads select) (chip s colours.now overlays.now) }
 {
-    let refusal = standing(s, colours.len(), overlays.len());
-    if refusal != 0 {
-        return refused(refusal, s);
+    if let Err(r) = standing(s, colours.len(), overlays.len()) {
+        return refused(r, s);
     }
     let a = s.address;
-    let k = s.clock;
-    let at_red = port(s, a, 0, s.red, s.green);
+    let at_red = State { pointer: 0, ..s };
     match select {
         0 => accepted(a, at_red),
         1 => data_read(s, colours, a as usize, next_colour(a)),
@@ -31,7 +30,7 @@ pub fn zk_a_read(s: State, select: u8, colours: &[u8], overlays: &[u8]) -> Answe
         4 => accepted(s.readmask, s),
         5 => accepted(s.blinkmask, s),
         6 => accepted(s.control, s),
-        7 => accepted(k.timing, s),
-        _ => refused(3, s), // nothing moves
+        7 => accepted(s.clock.timing, s),
+        _ => refused(Refusal::NoAccess, s), // nothing moves
     }
 }

@@ -8,16 +8,24 @@ ghost use Rattle.std.specs.Prelude.{◌≡◌, List, ℕ};
 ghost use Rattle.hd153108.specs.Hd153108.{chip, outcome, resets, called};
 
 use hd153108::{Answer, Clock, State};
-use hd153108_port::{accepted, port, registers};
+use hd153108_port::accepted;
 
 // A reset, from any state at all, whatever the tables are.
 pub fn zk_a_reset(s: State) -> Answer
     ensures { (cs os : List ℕ) → outcome result cs os ≡ called resets (chip s cs os) }
 {
-    let stopped = Clock {
-        timing: 0,
-        position: 0,
+    let zeroed = State {
+        address: 0,
+        pointer: 0,
+        red: 0,
+        green: 0,
+        readmask: 0,
+        blinkmask: 0,
+        control: 0,
+        clock: Clock {
+            timing: 0,
+            position: 0,
+        },
     };
-    let zeroed = port(s, 0, 0, 0, 0);
-    accepted(0, registers(zeroed, 0, 0, 0, stopped))
+    accepted(0, zeroed)
 }

@@ -9,9 +9,13 @@ use lib.Dec.{eqb}
 use borrow.Author.Tests.{ne_eqb}
 use Rattle.vocabulary.specs.Line.{line}
 use Rattle.vocabulary.specs.Range.{Holds}
+use Rattle.std.specs.Prelude.{Result, Ok, Err}
+use Rattle.vocabulary.specs.Refusal.{number as number_of}
+use Rattle.vocabulary.specs.declared.Refusal.{Refusal}
 use Rattle.vocabulary.specs.declared.Refusal.TheVariants.{LentLength, OutOfRange}
 use Rattle.vocabulary.specs.Outcome.{Outcome, accepting}
 use Rattle.vocabulary.proofs.Range.{clash, not_fails, holds_parts, fails_right}
+use Rattle.vocabulary.proofs.Refusals.{number_positive}
 use Rattle.vocabulary.proofs.Call.{tried_first, stops, goes_on}
 use Rattle.hd153108.specs.declared.State.{State}
 use Rattle.hd153108.specs.Hd153108.{Chip, chip, Table, colour, overlay, table_of, is_off, masked, selected}
@@ -22,7 +26,7 @@ use Rattle.hd153108.proofs.Access.{tried, known}
 use Rattle.hd153108.proofs.Lent.{pixel_lent}
 use Rattle.hd153108.proofs.Masks.{masked_fits}
 use Rattle.hd153108_shown.specs.declared.Pick.{Pick}
-use Rattle.hd153108_shown.specs.declared.Pick.TheVariants.{Colour, Overlay, Refused}
+use Rattle.hd153108_shown.specs.declared.Pick.TheVariants.{Colour, Overlay}
 use Rattle.hd153108_shown.specs.Picked.{is_colour, meaning, Inside, Which, Picked}
 
 is_colour_lem : (t : Table) → is_colour t ≡ true → t ≡ colour
@@ -35,7 +39,8 @@ is_overlay colour e = clash e
 
 module _ (enable number byte : ℕ) (c : Chip) where
   -- refused for the enable or the number
-  outside_refused : InRange c → (Holds (pixel_ranges enable number) → ⊥) → Picked enable number byte c (Refused 9)
+  outside_refused : InRange c → (Holds (pixel_ranges enable number) → ⊥)
+      → Picked enable number byte c (Err OutOfRange)
   unfolding pixel_part
   outside_refused g h = record {
     means =
@@ -53,28 +58,29 @@ module _ (enable number byte : ℕ) (c : Chip) where
       rw (sym h) (goes_on (pixel_refusals enable number c) 0 [] _ (pixel_clear c g enable number e n))
 
 -- the decision's five ends
-module _ (enable number byte : ℕ) (s : State) (cs os : List ℕ) {n : ℕ} (e : n ≡ tried (chip s cs os)) where
+module _ (enable number byte : ℕ) (s : State) (cs os : List ℕ) where
   -- refused by what every call tries first
-  pub picked_first : (n ≡ 0 → ⊥) → Picked enable number byte (chip s cs os) (Refused n)
+  pub picked_first : (r : Refusal) → number_of r ≡ tried (chip s cs os)
+      → Picked enable number byte (chip s cs os) (Err r)
   unfolding pixel_part
-  picked_first h =
+  picked_first r e =
       let c = chip s cs os in
       record {
         means =
-            tried_first (pixel_refusals enable number c) 0 [] _ (short c) (outside c) n refl
-            (fails_right (pixel_ranges enable number) (ranges c)) e h;
+            tried_first (pixel_refusals enable number c) 0 [] _ (short c) (outside c) (number_of r) refl
+            (fails_right (pixel_ranges enable number) (ranges c)) e (number_positive r);
         inside = tt;
         which = tt;
       }
 
-  module _ (clear : n ≡ 0) where
+  module _ (clear : 0 ≡ tried (chip s cs os)) where
     abbrev fine : InRange (chip s cs os)
-    fine = known _ (sym e ∙ clear)
+    fine = known _ clear
 
-    pub picked_enable : 2 ≤ enable → Picked enable number byte (chip s cs os) (Refused 9)
+    pub picked_enable : 2 ≤ enable → Picked enable number byte (chip s cs os) (Err OutOfRange)
     picked_enable h = outside_refused enable number byte _ fine (λ g. omega arith)
 
-    pub picked_number : 4 ≤ number → Picked enable number byte (chip s cs os) (Refused 9)
+    pub picked_number : 4 ≤ number → Picked enable number byte (chip s cs os) (Err OutOfRange)
     picked_number h = outside_refused enable number byte _ fine (λ g. omega arith)
 
     module _ (i : ℕ) {b off : Bool} (low : enable < 2) (few : number < 4)
@@ -85,7 +91,7 @@ module _ (enable number byte : ℕ) (s : State) (cs os : List ℕ) {n : ℕ} (e 
       table = test ∙ rw blink
 
       pub picked_colour : b ≡ true → i ≡ masked 8 off s.readmask s.blinkmask byte
-          → Picked enable number byte (chip s cs os) (Colour i)
+          → Picked enable number byte (chip s cs os) (Ok (Colour i))
       unfolding shown_entry
       picked_colour h p =
           let entry : i ≡ shown_entry colour number byte s = p ∙ rw blink in
@@ -97,7 +103,7 @@ module _ (enable number byte : ℕ) (s : State) (cs os : List ℕ) {n : ℕ} (e 
           }
 
       pub picked_overlay : b ≡ false → i ≡ masked 2 off s.control (s.control / 4) number
-          → Picked enable number byte (chip s cs os) (Overlay i)
+          → Picked enable number byte (chip s cs os) (Ok (Overlay i))
       unfolding shown_entry
       picked_overlay h p =
           let entry : i ≡ shown_entry overlay number byte s = p ∙ rw blink in
@@ -109,25 +115,32 @@ module _ (enable number byte : ℕ) (s : State) (cs os : List ℕ) {n : ℕ} (e 
             which = (shown, entry);
           }
 
--- what is known of a decision that is q: the part and where it lies, the refusal, the pixel's outcome
-module _ {enable number byte : ℕ} {c : Chip} {p q : Pick} (k : Picked enable number byte c p) (e : p ≡ q) where
+-- what is known of a decision that is q: the pixel's outcome, and where the entry lies
+module _ {enable number byte : ℕ} {c : Chip} {p q : Result Pick Refusal} (k : Picked enable number byte c p)
+    (e : p ≡ q) where
   means_as : meaning c q ≡ pixel_part enable number byte c
   means_as = rw e at k.means
-
-  pub part_as : (meaning c q).left ≡ (pixel_part enable number byte c).left
-  part_as = ap (λ (o : Outcome (List ℕ)). o.left) means_as
 
   pub told_as : told (meaning c q) c ≡ called (pixels enable number byte) c
   told_as = ap (λ (o : Outcome (List ℕ)). told o c) means_as ∙ sym (pixel_lent enable number byte c)
 
-  pub refusal_as : (meaning c q).refusal ≡ (called (pixels enable number byte) c).refusal
+  refusal_as : (meaning c q).refusal ≡ (called (pixels enable number byte) c).refusal
   refusal_as = ap (λ (o : Outcome Chip). o.refusal) told_as
 
   pub inside_as : Inside c q
   inside_as = rw e at k.inside
 
-  pub which_as : Which enable number byte c.state q
-  which_as = rw e at k.which
+-- so the refusal is the decision's
+no_refusal : (c : Chip) (x : Pick) → 0 ≡ (meaning c (Ok x)).refusal
+no_refusal c (Colour e) = refl
+no_refusal c (Overlay e) = refl
+
+module _ {enable number byte : ℕ} {c : Chip} {p : Result Pick Refusal} (k : Picked enable number byte c p) where
+  pub accepts : (x : Pick) → p ≡ Ok x → 0 ≡ (called (pixels enable number byte) c).refusal
+  accepts x e = no_refusal c x ∙ refusal_as k e
+
+  pub refuses : (r : Refusal) → p ≡ Err r → number_of r ≡ (called (pixels enable number byte) c).refusal
+  refuses r e = refusal_as k e
 
 -- the test of the table: without enable; where b6 is 0; where b6 is 1
 module _ (enable b6 number : ℕ) where

@@ -12,13 +12,14 @@ ghost use Rattle.hd153108_shown.specs.Picked.{is_colour, Picked};
 
 use hd153108::State;
 use hd153108_masks::{masked_byte, masked_number};
+use hd153108_range::{blink_off, standing};
+use vocabulary::Refusal;
 
-// What a pixel shows: an entry of one of the tables; or its refusal.
+// What a pixel shows: an entry of one of the tables.
 #[derive(Clone, Copy)]
 pub enum Pick {
     Colour(usize),
     Overlay(usize),
-    Refused(u8),
 }
 
 // Whether the colour table shows: bit 6 of the overlay control tests the number after read mask and blink.
@@ -38,23 +39,28 @@ fn shows_colour(off: bool, enable: u8, control: u8, number: u8) -> bool
 }
 
 // The one decision: refusals 1 and 9, then the table and its entry.
-pub fn picked(s: State, enable: u8, number: u8, byte: u8, colours: &[u8], overlays: &[u8]) -> Pick
+pub fn picked(
+    s: State,
+    enable: u8,
+    number: u8,
+    byte: u8,
+    colours: &[u8],
+    overlays: &[u8],
+) -> Result<Pick, Refusal>
     ensures { Picked enable number byte (chip s colours.now overlays.now) result }
 {
-    let refusal = hd153108_range::standing(s, colours.len(), overlays.len());
-    if refusal != 0 {
-        return Pick::Refused(refusal);
-    }
+    standing(s, colours.len(), overlays.len())?;
     if 2 <= enable {
-        return Pick::Refused(9);
+        return Err(Refusal::OutOfRange);
     }
     if 4 <= number {
-        return Pick::Refused(9);
+        return Err(Refusal::OutOfRange);
     }
-    let control = s.control;
-    let off = hd153108_range::blink_off(s.clock);
-    if shows_colour(off, enable, control, number) {
-        return Pick::Colour(masked_byte(off, s.readmask, s.blinkmask, byte) as usize);
+    let off = blink_off(s.clock);
+    if shows_colour(off, enable, s.control, number) {
+        let entry = masked_byte(off, s.readmask, s.blinkmask, byte);
+        return Ok(Pick::Colour(usize::from(entry)));
     }
-    Pick::Overlay(masked_number(off, control, number) as usize)
+    let entry = masked_number(off, s.control, number);
+    Ok(Pick::Overlay(usize::from(entry)))
 }

@@ -6,10 +6,12 @@
 #![tactic(auto)]
 
 ghost use Rattle.std.specs.Prelude.{◌≡◌};
-ghost use Rattle.hd153108.specs.Hd153108.{clock, tick, clock_outcome};
+ghost use Rattle.hd153108.specs.Hd153108.{tick, clock_outcome};
+ghost use Rattle.hd153108_tick.specs.Step.{stepping};
 
 use hd153108::Clock;
 use hd153108_range::period_of;
+use vocabulary::Refusal;
 
 // What a blink step answers.
 #[repr(C)]
@@ -19,43 +21,28 @@ pub struct ClockAnswer {
     pub clock: Clock,
 }
 
-// The blink position after a tick.
-#[derive(Clone, Copy)]
-struct Next {
-    position: u8,
-    refusal: u8,
-}
-
-// One tick more, on numbers.
-fn step(timing: u8, position: u8) -> Next
-    ensures { clock_outcome result.refusal (clock timing result.position) ≡ tick (clock timing position) }
+// The clock after a tick, or why there is none.
+fn step(k: Clock) -> Result<Clock, Refusal>
+    ensures { stepping k result ≡ tick k }
 {
-    let period = period_of(timing);
-    if period <= position {
-        return Next {
-            position: position,
-            refusal: 9,
-        };
+    let period = period_of(k.timing);
+    if period <= k.position {
+        return Err(Refusal::OutOfRange);
     }
-    Next {
-        position: (position + 1) % period,
-        refusal: 0,
-    }
+    let position = (k.position + 1) % period;
+    Ok(Clock { position, ..k })
 }
 
 // One tick more, by value.
 pub fn zk_a_step(k: Clock) -> ClockAnswer
     ensures { clock_outcome result.refusal result.clock ≡ tick k }
 {
-    let timing = k.timing;
-    let next = step(timing, k.position);
-    let after = Clock {
-        timing: timing,
-        position: next.position,
-    };
-    ClockAnswer {
-        refusal: next.refusal,
-        clock: after,
+    match step(k) {
+        Ok(clock) => ClockAnswer { refusal: 0, clock },
+        Err(r) => ClockAnswer {
+            refusal: u8::from(r),
+            clock: k,
+        },
     }
 }
 
@@ -63,7 +50,7 @@ pub fn zk_a_step(k: Clock) -> ClockAnswer
 pub fn zk_a_tick(k: &mut Clock) -> u8
     ensures { clock_outcome result k.new ≡ tick k.old }
 {
-    let next = step(k.timing, k.position);
-    k.position = next.position;
-    next.refusal
+    let answer = zk_a_step(*k);
+    *k = answer.clock;
+    answer.refusal
 }

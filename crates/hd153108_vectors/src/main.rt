@@ -20,11 +20,15 @@ use script::byte;
 use std::io;
 use std::io::Write;
 
+// The chip's state, and the tables that are lent.
+#[derive(Drop)]
+struct Bench {
+    state: State,
+    colours: [u8; 768],
+    overlays: [u8; 12],
+}
+
 fn given(line: &[u8]) -> State {
-    let k = Clock {
-        timing: byte(line, 23),
-        position: byte(line, 26),
-    };
     State {
         address: byte(line, 2),
         pointer: byte(line, 5),
@@ -33,108 +37,81 @@ fn given(line: &[u8]) -> State {
         readmask: byte(line, 14),
         blinkmask: byte(line, 17),
         control: byte(line, 20),
-        clock: k,
+        clock: Clock {
+            timing: byte(line, 23),
+            position: byte(line, 26),
+        },
     }
 }
 
 // Every byte of entry n is first + n.
 fn number_entries(t: &mut [u8], first: u8) {
-    for i in 0..t.len() {
-        t[i] = std::num::wrapping_add_u8(first, (i / 3 % 256) as u8);
+    for (n, entry) in t.chunks_mut(3).enumerate() {
+        entry.fill(first.wrapping_add((n % 256) as u8));
     }
 }
 
-// A line of the blink clock; any other is the label of what follows.
-fn blink<W: Write>(out: &mut W, k: Clock, line: &[u8]) -> io::Result<Clock> {
-    match script::command(line) {
-        b't' => show::tick(out, k),
-        b'a' => show::advance(out, k),
-        b'k' => show::clock(out, k),
-        _ => {
-            script::label(out, line, 0)?;
-            Ok(k)
+impl Bench {
+    // A line of the blink clock; any other is the label of what follows.
+    fn blink<W: Write>(&mut self, out: &mut W, line: &[u8]) -> io::Result<()> {
+        match script::command(line) {
+            b't' => self.tick(out),
+            b'a' => self.advance(out),
+            b'k' => show::clock(out, self.state.clock),
+            _ => script::label(out, line, 0),
         }
     }
-}
 
-// A line that no table is lent for.
-fn alone<W: Write>(out: &mut W, s: State, line: &[u8]) -> io::Result<State> {
-    match script::command(line) {
-        b's' => Ok(given(line)),
-        b'z' => show::reset(out, s),
-        b'g' => show::registers(out, s),
-        _ => {
-            let mut n = s;
-            let k = blink(out, s.clock, line)?;
-            n.clock = k;
-            Ok(n)
+    // A line that no table is lent for.
+    fn alone<W: Write>(&mut self, out: &mut W, line: &[u8]) -> io::Result<()> {
+        match script::command(line) {
+            b's' => {
+                self.state = given(line);
+                Ok(())
+            }
+            b'z' => self.reset(out),
+            b'g' => show::registers(out, self.state),
+            _ => self.blink(out, line),
         }
     }
-}
 
-// A line that leaves the tables.
-fn asked<W: Write>(
-    out: &mut W,
-    s: State,
-    line: &[u8],
-    colours: &[u8],
-    overlays: &[u8],
-) -> io::Result<State> {
-    match script::command(line) {
-        b'r' => show::read(out, s, line, colours, overlays),
-        b'p' => show::pixel(out, s, line, colours, overlays),
-        b'c' => show::entry(out, s, line, colours),
-        b'o' => show::entry(out, s, line, overlays),
-        b'?' => show::look(out, s, line, colours, overlays),
-        _ => alone(out, s, line),
-    }
-}
-
-fn turn<W: Write>(
-    out: &mut W,
-    s: State,
-    line: &[u8],
-    colours: &mut [u8; 768],
-    overlays: &mut [u8; 12],
-) -> io::Result<State> {
-    match script::command(line) {
-        b'w' => show::write(out, s, line, colours, overlays),
-        b'x' => show::write(out, s, line, overlays, colours),
-        b'n' => {
-            number_entries(colours, 0);
-            number_entries(overlays, 240);
-            Ok(s)
+    // A line that leaves the tables.
+    fn asked<W: Write>(&mut self, out: &mut W, line: &[u8]) -> io::Result<()> {
+        match script::command(line) {
+            b'r' => self.read(out, line),
+            b'p' => self.pixel(out, line),
+            b'c' => show::entry(out, line, &self.colours),
+            b'o' => show::entry(out, line, &self.overlays),
+            b'?' => self.look(out, line),
+            _ => self.alone(out, line),
         }
-        _ => asked(out, s, line, colours, overlays),
     }
-}
 
-fn run<W: Write>(
-    out: &mut W,
-    text: &[u8],
-    mut s: State,
-    colours: &mut [u8; 768],
-    overlays: &mut [u8; 12],
-) -> io::Result<()> {
-    let mut at = 0;
-    while at < text.len() {
-        let to = script::end(text, at);
-        s = turn(out, s, &text[at..to], colours, overlays)?;
-        at = to + 1;
+    fn turn<W: Write>(&mut self, out: &mut W, line: &[u8]) -> io::Result<()> {
+        match script::command(line) {
+            b'w' => self.write(out, line),
+            b'x' => self.write_exchanged(out, line),
+            b'n' => {
+                number_entries(&mut self.colours, 0);
+                number_entries(&mut self.overlays, 240);
+                Ok(())
+            }
+            _ => self.asked(out, line),
+        }
     }
-    Ok(())
 }
 
 fn main(rt: HostRuntime) -> io::Result<()> {
     let mut text = [0u8; 4096];
     let n = script::read_full(&mut rt.stdin(), &mut text)?;
-    let mut colours = [0u8; 768];
-    let mut overlays = [0u8; 12];
-    run(
-        &mut rt.stdout(),
-        &text[..n],
-        given(b""),
-        &mut colours,
-        &mut overlays,
-    )
+    let mut bench = Bench {
+        state: given(b""),
+        colours: [0; 768],
+        overlays: [0; 12],
+    };
+    let mut out = rt.stdout();
+    for line in text[..n].split_inclusive(|b| *b == b'\n') {
+        bench.turn(&mut out, script::line(line))?;
+    }
+    Ok(())
 }

@@ -1,159 +1,166 @@
 // What the vectors print. Every number is two hex digits, but of a look four.
+use super::Bench;
 use hd153108::{Answer, Clock, State};
-use script::fields;
+use script::{byte, fields};
 use std::io;
 use std::io::Write;
 
-// An access's answer, and the part of the state that accesses move.
-fn answer<W: Write>(out: &mut W, a: Answer) -> io::Result<State> {
-    let s = a.state;
-    let numbers = [a.refusal, a.value, s.address, s.pointer, s.red, s.green];
-    fields(
-        out,
-        b" refused=% value=% address=% pointer=% red=% green=%\n",
-        &numbers,
-    )?;
-    Ok(s)
-}
-
-pub fn write<W: Write>(
-    out: &mut W,
-    s: State,
-    line: &[u8],
-    colours: &mut [u8],
-    overlays: &mut [u8],
-) -> io::Result<State> {
-    let select = script::byte(line, 2);
-    let byte = script::byte(line, 5);
-    let numbers = [select, byte];
-    fields(out, b"write select=% byte=%", &numbers)?;
-    answer(
-        out,
-        hd153108_write::zk_a_write(s, select, byte, colours, overlays),
-    )
-}
-
-pub fn read<W: Write>(
-    out: &mut W,
-    s: State,
-    line: &[u8],
-    colours: &[u8],
-    overlays: &[u8],
-) -> io::Result<State> {
-    let select = script::byte(line, 2);
-    let numbers = [select];
-    fields(out, b"read select=%", &numbers)?;
-    answer(out, hd153108_read::zk_a_read(s, select, colours, overlays))
-}
-
-pub fn reset<W: Write>(out: &mut W, s: State) -> io::Result<State> {
-    script::rest(out, b"reset", 0)?;
-    answer(out, hd153108_reset::zk_a_reset(s))
-}
-
-pub fn registers<W: Write>(out: &mut W, s: State) -> io::Result<State> {
-    let numbers = [
-        s.readmask,
-        s.blinkmask,
-        s.control,
-        s.clock.timing,
-        s.clock.position,
-    ];
+pub fn registers<W: Write>(out: &mut W, s: State) -> io::Result<()> {
     fields(
         out,
         b"readmask=% blinkmask=% overlay=% timing=% position=%\n",
-        &numbers,
-    )?;
-    Ok(s)
+        &[
+            s.readmask,
+            s.blinkmask,
+            s.control,
+            s.clock.timing,
+            s.clock.position,
+        ],
+    )
 }
 
 // The blink clock, and whether it is in its on time.
-pub fn clock<W: Write>(out: &mut W, k: Clock) -> io::Result<Clock> {
-    let numbers = [k.timing, k.position];
-    fields(out, b"timing=% position=%", &numbers)?;
+pub fn clock<W: Write>(out: &mut W, k: Clock) -> io::Result<()> {
+    fields(out, b"timing=% position=%", &[k.timing, k.position])?;
     if hd153108_range::blink_off(k) {
-        script::rest(out, b" off\n", 0)?;
-        return Ok(k);
+        return out.write_all(b" off\n");
     }
-    script::rest(out, b" on\n", 0)?;
-    Ok(k)
-}
-
-// A tick by value, whose answer is printed.
-pub fn tick<W: Write>(out: &mut W, k: Clock) -> io::Result<Clock> {
-    let a = hd153108_tick::zk_a_step(k);
-    let numbers = [a.refusal, a.clock.timing, a.clock.position];
-    fields(out, b"tick refused=% timing=% position=%\n", &numbers)?;
-    Ok(a.clock)
-}
-
-// A tick after which the clock is printed.
-pub fn advance<W: Write>(out: &mut W, k: Clock) -> io::Result<Clock> {
-    let a = hd153108_tick::zk_a_step(k);
-    clock(out, a.clock)
-}
-
-fn hex<W: Write>(out: &mut W, b: u8) -> io::Result<()> {
-    script::hex(out, b" ", b as u64, 2)
+    out.write_all(b" on\n")
 }
 
 fn bytes<W: Write>(out: &mut W, t: &[u8]) -> io::Result<()> {
     for b in t {
-        hex(out, *b)?;
+        script::hex(out, b" ", u64::from(*b), 2)?;
     }
     script::line_end(out)
 }
 
 // The three bytes of a table's entry, behind the line's label.
-pub fn entry<W: Write>(out: &mut W, s: State, line: &[u8], t: &[u8]) -> io::Result<State> {
+pub fn entry<W: Write>(out: &mut W, line: &[u8], t: &[u8]) -> io::Result<()> {
     script::rest(out, line, 5)?;
-    let at = 3 * (script::byte(line, 2) as usize);
-    if at + 3 <= t.len() {
-        bytes(out, &t[at..at + 3])?;
+    let at = 3 * usize::from(byte(line, 2));
+    match t.get(at..at + 3) {
+        Some(entry) => bytes(out, entry),
+        None => Ok(()),
     }
-    Ok(s)
 }
 
-// A pixel: its refusal, and the part that it hands back.
-pub fn pixel<W: Write>(
-    out: &mut W,
-    s: State,
-    line: &[u8],
-    colours: &[u8],
-    overlays: &[u8],
-) -> io::Result<State> {
-    let enable = script::byte(line, 2);
-    let number = script::byte(line, 5);
-    let byte = script::byte(line, 8);
-    let refusal = hd153108_pixel_refusal::zk_a_pixel_refusal(
-        s, enable, number, byte, colours, overlays,
-    );
-    let numbers = [enable, number, byte, refusal];
-    fields(
-        out,
-        b"pixel enable=% number=% byte=% refused=%, shows",
-        &numbers,
-    )?;
-    bytes(
-        out,
-        hd153108_pixel::pixel(s, enable, number, byte, colours, overlays),
-    )?;
-    Ok(s)
+impl Bench {
+    // An access's answer, and the part of the state that accesses move.
+    fn answer<W: Write>(&mut self, out: &mut W, a: Answer) -> io::Result<()> {
+        let s = a.state;
+        self.state = s;
+        fields(
+            out,
+            b" refused=% value=% address=% pointer=% red=% green=%\n",
+            &[a.refusal, a.value, s.address, s.pointer, s.red, s.green],
+        )
+    }
+
+    pub fn write<W: Write>(&mut self, out: &mut W, line: &[u8]) -> io::Result<()> {
+        let (select, data) = written(out, line)?;
+        let a = hd153108_write::zk_a_write(
+            self.state,
+            select,
+            data,
+            &mut self.colours,
+            &mut self.overlays,
+        );
+        self.answer(out, a)
+    }
+
+    // The same with the tables lent in each other's place.
+    pub fn write_exchanged<W: Write>(&mut self, out: &mut W, line: &[u8]) -> io::Result<()> {
+        let (select, data) = written(out, line)?;
+        let a = hd153108_write::zk_a_write(
+            self.state,
+            select,
+            data,
+            &mut self.overlays,
+            &mut self.colours,
+        );
+        self.answer(out, a)
+    }
+
+    pub fn read<W: Write>(&mut self, out: &mut W, line: &[u8]) -> io::Result<()> {
+        let select = byte(line, 2);
+        fields(out, b"read select=%", &[select])?;
+        let a = hd153108_read::zk_a_read(self.state, select, &self.colours, &self.overlays);
+        self.answer(out, a)
+    }
+
+    pub fn reset<W: Write>(&mut self, out: &mut W) -> io::Result<()> {
+        out.write_all(b"reset")?;
+        self.answer(out, hd153108_reset::zk_a_reset(self.state))
+    }
+
+    // A tick by value, whose answer is printed.
+    pub fn tick<W: Write>(&mut self, out: &mut W) -> io::Result<()> {
+        let a = hd153108_tick::zk_a_step(self.state.clock);
+        self.state.clock = a.clock;
+        fields(
+            out,
+            b"tick refused=% timing=% position=%\n",
+            &[a.refusal, a.clock.timing, a.clock.position],
+        )
+    }
+
+    // A tick after which the clock is printed.
+    pub fn advance<W: Write>(&mut self, out: &mut W) -> io::Result<()> {
+        let a = hd153108_tick::zk_a_step(self.state.clock);
+        self.state.clock = a.clock;
+        clock(out, a.clock)
+    }
+
+    // A pixel: its refusal, and the part that it hands back.
+    pub fn pixel<W: Write>(&self, out: &mut W, line: &[u8]) -> io::Result<()> {
+        let enable = byte(line, 2);
+        let number = byte(line, 5);
+        let data = byte(line, 8);
+        let refusal = hd153108_pixel_refusal::zk_a_pixel_refusal(
+            self.state,
+            enable,
+            number,
+            data,
+            &self.colours,
+            &self.overlays,
+        );
+        fields(
+            out,
+            b"pixel enable=% number=% byte=% refused=%, shows",
+            &[enable, number, data, refusal],
+        )?;
+        let part = hd153108_pixel::pixel(
+            self.state,
+            enable,
+            number,
+            data,
+            &self.colours,
+            &self.overlays,
+        );
+        bytes(out, part)
+    }
+
+    // A look: its refusal and the number at the place.
+    pub fn look<W: Write>(&self, out: &mut W, line: &[u8]) -> io::Result<()> {
+        let place = script::word(line, 2);
+        let seen = hd153108_look::zk_a_look(
+            self.state,
+            u32::from(place),
+            &self.colours,
+            &self.overlays,
+        );
+        script::hex(out, b"look place=", u64::from(place), 4)?;
+        script::hex(out, b" refused=", u64::from(seen.refusal), 2)?;
+        script::hex(out, b" value=", u64::from(seen.value), 4)?;
+        script::line_end(out)
+    }
 }
 
-// A look: its refusal and the number at the place.
-pub fn look<W: Write>(
-    out: &mut W,
-    s: State,
-    line: &[u8],
-    colours: &[u8],
-    overlays: &[u8],
-) -> io::Result<State> {
-    let place = script::word(line, 2);
-    let seen = hd153108_look::zk_a_look(s, place as u32, colours, overlays);
-    script::hex(out, b"look place=", place as u64, 4)?;
-    script::hex(out, b" refused=", seen.refusal as u64, 2)?;
-    script::hex(out, b" value=", seen.value as u64, 4)?;
-    script::line_end(out)?;
-    Ok(s)
+// A write's select and byte, printed.
+fn written<W: Write>(out: &mut W, line: &[u8]) -> io::Result<(u8, u8)> {
+    let select = byte(line, 2);
+    let data = byte(line, 5);
+    fields(out, b"write select=% byte=%", &[select, data])?;
+    Ok((select, data))
 }

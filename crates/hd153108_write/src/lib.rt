@@ -12,15 +12,15 @@ use hd153108::{Answer, State};
 use hd153108_data_write::data_write;
 use hd153108_port::{accepted, next_colour, next_overlay, refused};
 use hd153108_range::standing;
+use vocabulary::Refusal;
 
 // A write access. The colours or the overlays change at an accepted blue data write alone.
 pub fn zk_a_write(s: State, select: u8, byte: u8, colours: &mut [u8], overlays: &mut [u8]) -> Answer
     ensures { outcome result colours.new overlays.new
         ≡ called (writes select byte) (chip s colours.old overlays.old) }
 {
-    let refusal = standing(s, colours.len(), overlays.len());
-    if refusal != 0 {
-        return refused(refusal, s);
+    if let Err(r) = standing(s, colours.len(), overlays.len()) {
+        return refused(r, s);
     }
     let a = s.address;
     match select {
@@ -34,6 +34,6 @@ pub fn zk_a_write(s: State, select: u8, byte: u8, colours: &mut [u8], overlays: 
         5 => hd153108_set::set_blink_mask(s, byte),
         6 => hd153108_set::set_control(s, byte),
         7 => hd153108_set::set_timing(s, byte),
-        _ => refused(3, s),
+        _ => refused(Refusal::NoAccess, s),
     }
 }

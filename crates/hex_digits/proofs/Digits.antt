@@ -22,9 +22,10 @@ module _ (b : ℕ) where
   value_between g h = rw (lt-leb b 47 (omega arith), lt-leb b 57 g, le-leb b 96 h)
 
   module _ (g : 96 < b) where
-    pub value_high : b ≤ 102 → b - 87 ≡ hex_value b
+    pub value_high : b ≤ 102 → b - 97 + 10 ≡ hex_value b
     unfolding hex_value pick
-    value_high h = rw (lt-leb b 47 (omega arith), lt-leb b 57 (omega arith), lt-leb b 96 g, le-leb b 102 h)
+    value_high h =
+        rw (lt-leb b 47 (omega arith), lt-leb b 57 (omega arith), lt-leb b 96 g, le-leb b 102 h) (omega arith)
 
     pub value_behind : 102 < b → 0 ≡ hex_value b
     unfolding hex_value pick
@@ -50,3 +51,6 @@ value_digit d h =
     cases (ltb d 10)
     (λ e. let l = ltb-true d 10 e in rw e (omega (arith, value_low (48 + d) (omega arith) (omega arith))))
     (λ e. let l = ltb-false d 10 e in rw e (omega (arith, value_high (87 + d) (omega arith) (omega arith))))
+
+-- the ranges, each with its number
+pub ruleset values = (value_before, value_low, value_between, value_high, value_behind)

@@ -24,6 +24,8 @@ pub number_more : (w i : ℕ) (t : List ℕ) {v d b : ℕ} → v ≡ number w i 
 unfolding number
 number_more w i t e f g = rw (e, f, g, add-one)
 
+pub ruleset digit_by_digit = (number_none, number_more)
+
 -- w digits stay below 16^w
 pub number_below : (w i : ℕ) (t : List ℕ) → number w i t < 16 ^ w
 unfolding number

@@ -11,35 +11,24 @@ ghost use Rattle.hex_digits.specs.Hex.{hex_digit, hex_value};
 pub fn digit(x: u16) -> u8
     ensures { result ≡ hex_digit (x % 16) }
 {
-    let digits = b"0123456789abcdef";
-    digits[(x % 16) as usize]
+    b"0123456789abcdef"[(x % 16) as usize]
 }
 
 // The number that a digit stands for, 0 for any other byte.
+#[tactic(auto, using(crate::proofs::Digits::values))]
 pub fn nibble(b: u8) -> u16
     ensures { (result ≡ hex_value b) × (result < 16) }
 {
-    if b <= 47 {
-        return 0;
+    match b {
+        b'0'..=b'9' => (b - b'0') as u16,
+        b'a'..=b'f' => (b - b'a' + 10) as u16,
+        _ => 0,
     }
-    if b <= 57 {
-        return (b - 48) as u16;
-    }
-    if b <= 96 {
-        return 0;
-    }
-    if b <= 102 {
-        return (b - 87) as u16;
-    }
-    0
 }
 
 // The byte at a place, 0 past the end.
 pub fn byte(s: &[u8], i: usize) -> u8
     ensures { result ≡ get_or s.now i 0 }
 {
-    if i < s.len() {
-        return s[i];
-    }
-    0
+    s.get(i).copied().unwrap_or(0)
 }

@@ -9,20 +9,20 @@ ghost use Rattle.std.specs.Prelude.{◌≡◌, ◌<◌, ◌≤◌};
 ghost use Rattle.hex_digits.specs.Hex.{number};
 
 // Of so many digits.
+#[tactic(auto, using(hex_digits::proofs::Number::digit_by_digit))]
 pub fn spelt(t: &[u8], i: usize, width: usize) -> u32
     requires { (i < 16) × (width ≤ 8) }
     ensures { result ≡ number width i t.now }
 {
     let mut v: u32 = 0;
-    let mut w: usize = 0;
-    while w < width {
+    for w in 0..width {
         v = v * 16 + hex_digits::nibble(hex_digits::byte(t, i + w)) as u32;
-        w += 1;
     }
     v
 }
 
 // Of at most four.
+// Stays: of the three only this cast and the next differ; one generic function would take a trait of three impls.
 pub fn spelt_word(t: &[u8], i: usize, width: usize) -> u16
     requires { (i < 16) × (width ≤ 4) }
     ensures { result ≡ number width i t.now }

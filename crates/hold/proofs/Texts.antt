@@ -1,14 +1,18 @@
 -- A text up to its first LF. Assumes nothing.
 use Prim.Native.Nat.{ℕ, suc, ◌+◌, ◌≤◌, ◌<◌}
-use mathlib.Core.Path.{◌≡◌, sym, ap, ◌∙◌}
-use mathlib.Core.Bool.{true, false}
+use mathlib.Core.Path.{◌≡◌, refl, sym, ap, ◌∙◌}
+use mathlib.Core.Bool.{Bool, true, false}
 use mathlib.Core.List.{List, [], ◌∷◌}
 use native.Mathlib.Numerals.{add-one}
 use native.Mathlib.Omega.{arith}
 use lib.Dec.{eqb, ltb}
-use lib.ListN.{length, get_or, take, drop, drop_of_length-le}
-use lib.Seq.{drop-cons, take-suc}
-use borrow.Author.Tests.{eqb-true, eqb-false, eq-eqb, ne_eqb, ltb-true, lt-ltb, le-ltb}
+use lib.ListN.{length, get_or, take}
+use lib.Seq.{take-suc}
+use borrow.Author.Tests.{eqb-true, eqb-false, ltb-true, ltb-false, lt-ltb, le-ltb}
+use Rattle.std.specs.List.{position, position_or_len}
+use Rattle.std.specs.Option.{unwrap_or}
+use Rattle.std.specs.Prelude.{cond}
+use Rattle.std.proofs.lemmas.List.Recursion.{is_position_or_len}
 use Rattle.vocabulary.specs.Choice.{pick}
 use Rattle.vocabulary.proofs.Choice.{picks_first, picks_second, cases}
 use Rattle.port_log.specs.declared.Line.{Line}
@@ -16,25 +20,28 @@ use Rattle.port_log.specs.Log.{line_of}
 use Rattle.hold.specs.Hold.{Hold, hold, held, holding, holding_all, before, up_to, Within, held_of, Hears}
 use Rattle.hold.proofs.Holds.{holding_more}
 
-module _ (t : List ℕ) (i : ℕ) where
-  -- at the end; past it
-  pub before_all : length t ≤ i → before (drop i t) ≡ 0
-  unfolding before
-  before_all h = rw (drop_of_length-le t h)
+-- no byte held; and one more
+pub holding_none : (h : Hold) → holding_all [] h ≡ h
+unfolding holding_all
+holding_none h = refl
 
-  module _ (g : i < length t) where
-    pub before_lf : get_or t i 0 ≡ 10 → before (drop i t) ≡ 0
-    unfolding before
-    before_lf e = rw (drop-cons t i 0 g) (picks_first _ _ (eq-eqb _ _ e))
+pub holding_on : (t : List ℕ) (i : ℕ) (h : Hold) → i < length t
+    → holding_all (take (i + 1) t) h ≡ holding (get_or t i 0) (holding_all (take i t) h)
+unfolding holding_all
+holding_on t i h g = rw (add-one, take-suc t i 0 g) (holding_more (take i t) (get_or t i 0 ∷ []) h)
 
-    pub before_on : (get_or t i 0 ≡ 10 → ⊥) → before (drop i t) ≡ suc (before (drop (i + 1) t))
-    unfolding before
-    before_on e = rw (drop-cons t i 0 g, add-one) (picks_second _ _ (ne_eqb _ _ e))
+before_none : before [] ≡ 0
+unfolding before
+before_none = refl
 
-    -- a byte that is held
-    pub holding_on : (h : Hold) → holding_all (take (i + 1) t) h ≡ holding (get_or t i 0) (holding_all (take i t) h)
-    unfolding holding_all
-    holding_on h = rw (add-one, take-suc t i 0 g) (holding_more (take i t) (get_or t i 0 ∷ []) h)
+by_test : (x : Bool) (n : ℕ) → pick x 0 (suc n) ≡ cond x 0 (1 + n)
+unfolding pick
+by_test true n = refl
+by_test false n = omega arith
+
+before_some : (b : ℕ) (t : List ℕ) → before (b ∷ t) ≡ cond (eqb b 10) 0 (1 + before t)
+unfolding before
+before_some b t = by_test (eqb b 10) (before t)
 
 pub before_inside : (t : List ℕ) → before t ≤ length t
 unfolding before
@@ -44,6 +51,21 @@ before_inside (b ∷ t) =
     cases (eqb b 10)
     (λ e. rw (picks_first 0 (suc (before t)) e) (omega arith))
     (λ e. rw (picks_second 0 (suc (before t)) e) (omega arith))
+
+-- the place of the first LF, where there is one, and else the length
+before_place : (t : List ℕ) → before t ≡ position_or_len (λ b. eqb b 10) t
+before_place = is_position_or_len before (λ b. eqb b 10) before_none (λ b t. before_some b t)
+
+pub before_is : (t : List ℕ) → unwrap_or (position (λ b. eqb b 10) t) (length t) ≡ before t
+before_is t =
+    let p = position_or_len (λ b. eqb b 10) t in
+    rw (before_place t) (cases (ltb p (length t))
+    (λ e. rw e refl)
+    (λ e.
+    let g = ltb-false p (length t) e in
+    let h = before_inside t in
+    let i = before_place t in
+    rw e (omega arith)))
 
 -- a first LF stands behind the bytes before it, and none among them
 pub before_is_lf : (t : List ℕ) → before t < length t → get_or t (before t) 0 ≡ 10
@@ -104,3 +126,6 @@ module _ (t bytes : List ℕ) (h : Hold) {n len : ℕ} {line : Line} (is : n ≡
     says = says ∙ ap (λ (k : Hold). line_of (held k)) holds;
     holds = holds;
   }
+
+-- what a scan of a text's bytes before its first LF goes by
+pub ruleset scans = (before_is, before_inside, holding_none, holding_on)

@@ -6,7 +6,7 @@
 // board's.
 #![tactic(auto)]
 
-ghost use Rattle.std.specs.Prelude.{◌≡◌};
+ghost use Rattle.std.specs.Prelude.{◌≡◌, ◌==◌, position};
 ghost use Rattle.hold.specs.Hold.{hold as held, holding, before, held_of};
 
 use port_log::Line;
@@ -19,6 +19,7 @@ pub struct Span {
 }
 
 // What the held bytes say, whether they are a whole line, how many are held on, and how many of the text were taken.
+// Stays: `Hears` promises the line where none ended too, so `ends` is not whether there is a line.
 #[derive(Clone, Copy)]
 pub struct Heard {
     pub line: Line,
@@ -28,6 +29,7 @@ pub struct Heard {
 }
 
 // A byte that ends no line is held while there is room: how many are held then.
+// Stays: the room is lent for a call and the count comes back by value; a struct would be made and undone in each.
 #[tactic(auto, using(crate::proofs::Holds::holds_room, crate::proofs::Holds::holds_full))]
 fn hold_byte(b: u8, hold: &mut [u8], len: usize) -> usize
     ensures { held hold.new result ≡ holding b (held hold.old len) }
@@ -39,21 +41,23 @@ fn hold_byte(b: u8, hold: &mut [u8], len: usize) -> usize
     len
 }
 
+// The place of the first LF.
+fn first_lf(text: &[u8]) -> Option<usize>
+    ensures { result ≡ position (λ b. b == 10) text.now }
+{
+    text.iter().position(|b| *b == b'\n')
+}
+
 // The bytes before the first LF are held while there is room.
-#[tactic(auto, using(crate::proofs::Texts::before_lf, crate::proofs::Texts::before_all))]
+#[tactic(auto, using(crate::proofs::Texts::scans))]
 pub fn scan(text: &[u8], hold: &mut [u8], len: usize) -> Span
     ensures { (result.before ≡ before text.now)
         × (held hold.new result.len ≡ held_of text.now (held hold.old len)) }
 {
-    let mut i: usize = 0;
+    let before = first_lf(text).unwrap_or(text.len());
     let mut n = len;
-    while i < text.len() {
-        let b = text[i];
-        if b == b'\n' {
-            return Span { before: i, len: n };
-        }
-        n = hold_byte(b, hold, n);
-        i += 1;
+    for b in &text[..before] {
+        n = hold_byte(*b, hold, n);
     }
-    Span { before: i, len: n }
+    Span { before, len: n }
 }

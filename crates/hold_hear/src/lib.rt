@@ -12,13 +12,11 @@ use hold::Heard;
 use port_log::Line;
 
 // What the held bytes say.
+#[tactic(auto, using(std::proofs::lemmas::List::take_min))]
 fn said(hold: &[u8], len: usize) -> Line
     ensures { result ≡ line_of (first_of len hold.now) }
 {
-    if len <= hold.len() {
-        return log_parse::parse(&hold[..len]);
-    }
-    log_parse::parse(hold)
+    log_parse::parse(&hold[..len.min(hold.len())])
 }
 
 // A text heard up to its first LF, or all of it.
@@ -29,14 +27,14 @@ pub fn hear(text: &[u8], hold: &mut [u8], len: usize) -> Heard
     let line = said(hold, s.len);
     if s.before < text.len() {
         return Heard {
-            line: line,
+            line,
             ends: true,
             len: 0,
             taken: s.before + 1,
         };
     }
     Heard {
-        line: line,
+        line,
         ends: false,
         len: s.len,
         taken: s.before,

@@ -6,8 +6,7 @@ use Rattle.std.proofs.lemmas.List.{take-append-le}
 use mathlib.Core.Logic.{⊎_elim}
 use Rattle.std.specs.declared.option.Option.{Option}
 use Rattle.std.specs.Io.KnownBytes.{Appends, Consumes, IsAtEnd}
-use Rattle.sheet.specs.declared.Answer.{Answer}
-use Rattle.sheet.specs.Sheet.{outcome}
+use Rattle.sheet.specs.Sheet.{Answer, outcome}
 use Rattle.calls.specs.Calls.{sheet_to_calls}
 use Rattle.loadlist.specs.Listing.{listing, Prints}
 

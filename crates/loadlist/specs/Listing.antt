@@ -1,12 +1,11 @@
 -- What loadlist prints: a good sheet's calls, one a line, or the refusal of another.
-use Rattle.std.specs.Prelude.{ℕ, zero, suc, ◌+◌, ◌*◌, ◌/◌, ◌%◌, ◌≡◌, List, [], ◌∷◌, ◌++◌, get_or, replicate}
+use Rattle.std.specs.Prelude.{ℕ, zero, suc, ◌+◌, ◌*◌, ◌/◌, ◌%◌, ◌≡◌, List, [], ◌∷◌, ◌++◌, get_or, replicate, Ok, Err}
 use Rattle.std.specs.Fmt.{decimal}
 use Rattle.std.specs.declared.option.Option.{Option}
 use Rattle.std.specs.Io.KnownBytes.{Appends}
 use Rattle.hex_digits.specs.Hex.{hex_digit}
-use Rattle.sheet.specs.declared.Answer.{Answer}
-use Rattle.sheet.specs.declared.Answer.TheVariants.{Done, Refused}
-use Rattle.sheet.specs.Sheet.{outcome}
+use Rattle.vocabulary.specs.Refusal.{number}
+use Rattle.sheet.specs.Sheet.{Answer, outcome}
 use Rattle.calls.specs.Calls.{sheet_to_calls}
 
 -- a call: `w`, its select, `=`, its byte
@@ -25,8 +24,8 @@ refusal_lines refusal line =
     (10 ∷ 108 ∷ 105 ∷ 110 ∷ 101 ∷ 61 ∷ decimal line) ++ 10 ∷ []
 
 abbrev pub listing : Answer → List ℕ → List ℕ
-listing (Done count) calls = call_lines count calls
-listing (Refused refusal line) calls = refusal_lines refusal line
+listing (Ok count) calls = call_lines count calls
+listing (Err e) calls = refusal_lines (number e.refusal) e.line
 
 -- what the step from the sheet to its calls answers, with a buffer of 1,572 bytes, is printed
 pub record Prints (old new : Option (List ℕ)) (sheet : List ℕ) : Type 0 where

@@ -7,12 +7,13 @@
 // specs/Listing.antt (`Prints`), for a reader that says which bytes it has left and a writer that says which it holds.
 #![tactic(auto)]
 
-ghost use Rattle.std.specs.Prelude.{◌≡◌, [], ◌∷◌, ◌/◌, ◌%◌, take, IfSome, OnOk};
+ghost use Rattle.std.specs.Prelude.{◌≡◌, [], ◌∷◌, ◌/◌, ◌%◌, length, take, IfSome, OnOk};
 ghost use Rattle.std.specs.Io.KnownBytes.{Appends};
 ghost use Rattle.hex_digits.specs.Hex.{hex_digit};
+ghost use Rattle.vocabulary.specs.Refusal.{number};
 ghost use Rattle.loadlist.specs.Listing.{call_lines, refusal_lines, Prints};
 
-use sheet::Answer;
+use sheet::Refused;
 use std::io;
 use std::io::{Read, Write};
 
@@ -28,24 +29,23 @@ fn call_line(select: u8, byte: u8) -> [u8; 6]
 }
 
 // The calls, one a line.
-fn show_calls<W: Write>(out: &mut W, calls: &[u8], count: u16) -> io::Result<()>
+fn show_calls<W: Write>(out: &mut W, calls: &[u8]) -> io::Result<()>
     ensures { OnOk result
-        (Appends (W.contents out.old) (W.contents out.new) (call_lines count calls.now)) }
+        (Appends (W.contents out.old) (W.contents out.new) (call_lines (length calls.now / 2) calls.now)) }
 {
-    for i in 0..count {
-        let at = 2 * (i as usize);
-        let line = call_line(hex_digits::byte(calls, at), hex_digits::byte(calls, at + 1));
-        out.write_all(&line)?;
+    let (pairs, _) = calls.as_chunks::<2>();
+    for [select, byte] in pairs {
+        out.write_all(&call_line(*select, *byte))?;
     }
     Ok(())
 }
 
-fn show_refusal<W: Write>(out: &mut W, refusal: u8, line: u16) -> io::Result<()>
+fn show_refusal<W: Write>(out: &mut W, refused: Refused) -> io::Result<()>
     ensures { OnOk result
-        (Appends (W.contents out.old) (W.contents out.new) (refusal_lines refusal line)) }
+        (Appends (W.contents out.old) (W.contents out.new) (refusal_lines (number refused.refusal) refused.line)) }
 {
-    script::number(out, b"refused=", refusal as u64)?;
-    script::number(out, b"\nline=", line as u64)?;
+    script::number(out, b"refused=", u8::from(refused.refusal) as u64)?;
+    script::number(out, b"\nline=", refused.line as u64)?;
     script::line_end(out)
 }
 
@@ -58,8 +58,8 @@ fn load<R: Read, W: Write>(from: &mut R, to: &mut W) -> io::Result<()>
     let n = script::read_full(from, &mut text)?;
     let mut calls = [0u8; 1572];
     match sheet_calls::sheet_calls(&text[..n], &mut calls) {
-        Answer::Done(count) => show_calls(to, &calls, count),
-        Answer::Refused(refusal, line) => show_refusal(to, refusal, line),
+        Ok(count) => show_calls(to, &calls[..2 * count as usize]),
+        Err(refused) => show_refusal(to, refused),
     }
 }
 

@@ -23,6 +23,7 @@ fn look(t: &[u8]) -> Line
 fn choice(t: &[u8]) -> Line
     ensures { result ≡ said (choices ++ look_forms) t.now }
 {
+    // Stays: each form says something of its own, so a table would hold a pattern and a closure a form, no plainer.
     if log_pattern::fits(b"chip=153108", t) {
         return Line::Choose(Chip::ChipA);
     }

@@ -23,6 +23,7 @@ fn pixel(enable: u8, number: u8, byte: u8) -> Line
 fn b_line(t: &[u8]) -> Line
     ensures { result ≡ said (b_forms ++ board_forms ++ look_forms) t.now }
 {
+    // Stays: each form says something of its own, so a table would hold a pattern and a closure a form, no plainer.
     if log_pattern::fits(b"pixel=#########", t) {
         return Line::To(Call::OfB(CallB::Pixel(
             hex_number::spelt_byte(t, 6, 1),

@@ -13,6 +13,7 @@ use port_log::{Call, Line};
 pub fn parse(t: &[u8]) -> Line
     ensures { result ≡ line_of t.now }
 {
+    // Stays: each form says something of its own, so a table would hold a pattern and a closure a form, no plainer.
     if log_pattern::fits(b"w#=##", t) {
         return Line::To(Call::Write(
             hex_number::spelt_byte(t, 1, 1),

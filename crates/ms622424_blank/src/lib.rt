@@ -9,6 +9,7 @@ ghost use Rattle.ms622424_places.specs.Places.{handed, outcome, Does};
 
 use ms622424_places::{Answer, State};
 use ms622424_port::{accepted, refused};
+use vocabulary::Refusal;
 
 // A blanking period of so many slots: each moves the oldest waiting entry, if one waits, into the map, and
 // the first position steps past it.
@@ -16,13 +17,18 @@ pub fn zk_b_blank(s: State, slots: u32, queue: &[u64], map: &mut [u8]) -> Answer
     ensures { Does (handed s queue.now map.old)
         (outcome result queue.now map.new) (called (blanks slots)) }
 {
-    let refusal = ms622424_range::standing_tables(s, queue, map.len());
-    if refusal != 0 {
-        return refused(refusal, s);
+    let Some(places) = queue.as_array::<64>() else {
+        return refused(Refusal::LentLength, s);
+    };
+    let Some(bytes) = map.as_mut_array::<24576>() else {
+        return refused(Refusal::LentLength, s);
+    };
+    if !ms622424_range::in_range(s, places) {
+        return refused(Refusal::OutOfRange, s);
     }
     if 65535 < slots {
-        return refused(9, s);
+        return refused(Refusal::OutOfRange, s);
     }
-    let m = ms622424_transfer::transfer(s, slots, queue, map);
+    let m = ms622424_transfer::transfer(s, slots, places, bytes);
     accepted(0, m.count, m.state)
 }

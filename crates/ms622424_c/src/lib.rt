@@ -9,7 +9,7 @@ ghost use Rattle.std.specs.Prelude.{◌≡◌, List, ℕ};
 ghost use Rattle.vocabulary.specs.Look.{looking};
 ghost use Rattle.vocabulary.specs.Pixel.{showing};
 ghost use Rattle.ms622424.specs.Ms622424.{writes, reads, resets, blanks, pixels, looks, called};
-ghost use Rattle.ms622424.specs.Ms622424.{signals as signalsCall};
+ghost use Rattle.ms622424.specs.Ms622424.{signals as signals_call};
 ghost use Rattle.ms622424_places.specs.Places.{handed, outcome, view, Does};
 
 use ms622424_places::{Answer, State};
@@ -62,7 +62,7 @@ pub extern "C" fn zk_b_pixel(s: State, mode: u8, word: u32, queue: &[u64], map: 
 #[unsafe(no_mangle)]
 pub extern "C" fn zk_b_sync(s: State, signals: u8, queue: &[u64]) -> Answer
     ensures { (m : List ℕ) → Does (handed s queue.now m) (outcome result queue.now m)
-        (called (signalsCall signals)) }
+        (called (signals_call signals)) }
 {
     ms622424_signals::zk_b_sync(s, signals, queue)
 }

@@ -1,15 +1,15 @@
 -- Laws of bits gathered from places. Assumes nothing.
-use Prim.Native.Nat.{ℕ, suc, ◌+◌, ◌-◌, ◌^◌, ◌≤◌, ◌<◌}
-use mathlib.Core.Path.{◌≡◌, ap, ◌∙◌}
+use Prim.Native.Nat.{ℕ, suc, ◌+◌, ◌^◌, ◌<◌}
+use mathlib.Core.Path.{◌≡◌}
 use mathlib.Core.Bool.{Bool, ◌&&◌}
 use mathlib.Core.List.{List}
 use native.Mathlib.Omega.{arith}
 use borrow.Author.Tests.{ltb-true, lt-ltb}
 use lib.Bits.{bit_or, or_lt, or_add_and, and_le_l, and_le_r}
 use lib.Dec.{ltb}
-use lib.ListN.{length, get_or, take, drop, length-drop}
+use lib.ListN.{length, get_or, take}
 use lib.Pow.{pow_pos}
-use lib.Seq.{take-suc, get_or-drop}
+use lib.Seq.{take-suc}
 use Rattle.vocabulary.specs.Every.{every}
 use Rattle.vocabulary.proofs.Every.{every_append, every_one}
 use Rattle.vocabulary.proofs.Range.{agree, both, pair}
@@ -32,17 +32,13 @@ or_below k a b =
     lt-ltb _ _ (or_lt k a b (ltb-true a (2 ^ k) t.0) (ltb-true b (2 ^ k) t.1)))
 
 -- no element, and one more
-pub gather_none : (l : List ℕ) (from k : ℕ) → ltb 0 (2 ^ k) ≡ all_below k (take (from - from) (drop from l))
+pub gather_none : (l : List ℕ) (k : ℕ) → ltb 0 (2 ^ k) ≡ all_below k (take 0 l)
 unfolding every
-gather_none l from k = let e : from - from ≡ 0 = omega arith in rw e (lt-ltb 0 (2 ^ k) (pow_pos k))
+gather_none l k = lt-ltb 0 (2 ^ k) (pow_pos k)
 
-pub gather_next : (bits from i to : ℕ) (l : List ℕ) → from ≤ i → i < to → to ≤ length l
-    → ((k : ℕ) → ltb bits (2 ^ k) ≡ all_below k (take (i - from) (drop from l)))
-    → (k : ℕ) → ltb (bit_or bits (get_or l i 0)) (2 ^ k) ≡ all_below k (take (i + 1 - from) (drop from l))
-gather_next bits from i to l g h t e k =
-    let d = drop from l in
-    let next : i + 1 - from ≡ suc (i - from) = omega arith in
-    let inside : i - from < length d = simp length-drop (omega arith) in
-    let same : get_or d (i - from) 0 ≡ get_or l i 0 = get_or-drop from l (i - from) 0
-    ∙ ap (λ (n : ℕ). get_or l n 0) (omega arith) in
-    rw (next, take-suc d (i - from) 0 inside, every_append, every_one, ← e k, same) (or_below k bits (get_or l i 0))
+pub gather_next : (bits i : ℕ) (l : List ℕ) → i < length l
+    → ((k : ℕ) → ltb bits (2 ^ k) ≡ all_below k (take i l))
+    → (k : ℕ) → ltb (bit_or bits (get_or l i 0)) (2 ^ k) ≡ all_below k (take (i + 1) l)
+gather_next bits i l h e k =
+    let next : i + 1 ≡ suc i = omega arith in
+    rw (next, take-suc l i 0 h, every_append, every_one, ← e k) (or_below k bits (get_or l i 0))

@@ -4,21 +4,17 @@
 // ms622424_queue_range which power is asked. Not modelled: anything of the chip but lent places.
 #![tactic(auto)]
 
-ghost use Rattle.std.specs.Prelude.{◌≡◌, ℕ, ◌-◌, ◌^◌, ◌≤◌, ltb, length, take, drop};
+ghost use Rattle.std.specs.Prelude.{◌≡◌, ℕ, ◌^◌, ltb};
 ghost use Rattle.vocabulary.specs.Every.{every};
 
-// The bits of the places from `from` to before `to`, gathered. They are below a power of 2 exactly when each place is.
-// There is no branch in the loop: it can be vectorized.
-pub fn gathered(queue: &[u64], from: usize, to: usize) -> u64
-    requires { (from ≤ to) × (to ≤ length queue.now) }
-    ensures { (k : ℕ)
-        → ltb result (2 ^ k) ≡ every (λ n. ltb n (2 ^ k)) (take (to - from) (drop from queue.now)) }
+// The bits of places, gathered. They are below a power of 2 exactly when each place is. There is no branch in the loop:
+// it can be vectorized.
+pub fn gathered(places: &[u64]) -> u64
+    ensures { (k : ℕ) → ltb result (2 ^ k) ≡ every (λ n. ltb n (2 ^ k)) places.now }
 {
     let mut bits: u64 = 0;
-    let mut i = from;
-    while i < to {
-        bits = bits | queue[i];
-        i += 1;
+    for place in places {
+        bits |= *place;
     }
     bits
 }

@@ -1,55 +1,96 @@
--- A look at a place of the state, as the code knows it. Assumes nothing.
-use Rattle.std.proofs.Common.{ℕ, ◌≡◌, List, length, sym, ap, ◌∙◌}
-use Rattle.vocabulary.specs.declared.Looked.{Looked}
-use Rattle.vocabulary.specs.Look.{looking, seen}
-use Rattle.vocabulary.proofs.Look.{looked_as}
-use Rattle.vocabulary.proofs.Outcome.{accepts_as}
-use Rattle.ms622424.specs.Ms622424.{Chip, InRange, looks, called}
-use Rattle.ms622424.proofs.Look.{Tells, look_state}
-use Rattle.ms622424_places.specs.declared.Fifo.{Fifo}
-use Rattle.ms622424_places.specs.Places.{colours}
+-- A look at a place, as the code knows it. Assumes nothing.
+use Rattle.std.proofs.Common.{ℕ, ◌≡◌, ◌-◌, ◌<◌, ◌≤◌, List, [], ◌∷◌, length, get_or, refl, sym, ◌∙◌, arith}
+use Rattle.vocabulary.specs.Face.{called_by}
+use Rattle.vocabulary.specs.Look.{looking, seen, unseen, found}
+use Rattle.vocabulary.specs.Range.{equal, fails}
+use Rattle.vocabulary.specs.Refusal.{number, refusal_of, standing}
+use Rattle.vocabulary.specs.declared.Refusal.{Refusal}
+use Rattle.vocabulary.proofs.Look.{look_stops}
+use Rattle.vocabulary.proofs.Refusals.{number_positive}
+use Rattle.ms622424.specs.Ms622424.{Chip, InRange, outside, look_places, looks, called}
+use Rattle.ms622424.proofs.InRange.{past}
+use Rattle.ms622424.proofs.Look.{Tells, look_state, look_map, look_nowhere}
+use Rattle.ms622424_places.specs.declared.State.{State}
+use Rattle.ms622424_places.specs.Places.{handed, view}
 use Rattle.ms622424_places.proofs.Places.{how_many}
-use borrow.Author.Rules.{rules}
 
-module _ (d : Chip) {place : ℕ} (a : Looked) (g : InRange d) where
-  told : (k n : ℕ) → Tells d g k n → place ≡ k → a ≡ seen n → looking a d ≡ called (looks place) d
-  told k n t e f = rw e (looked_as a f t)
+-- the refusal of what every call that is lent the map tries first
+abbrev pub tried_first : State → List ℕ → List ℕ → ℕ
+tried_first s q m =
+    refusal_of (standing (fails (equal (length q) 64 ∷ equal (length m) 24576 ∷ [])) (outside (view (handed s q []))))
 
-  pub told_address : place ≡ 0x0 → a ≡ seen d.port.address → looking a d ≡ called (looks place) d
-  told_address e f = told _ _ (look_state d g).0 e f
+-- past it the chip is in range, and its map whole
+stands : (s : State) (q m : List ℕ) → 0 ≡ tried_first s q m → InRange (view (handed s q m))
+stands s q m f = past (view (handed s q m)) f refl
 
-  pub told_counter : place ≡ 0x1 → a ≡ seen d.port.counter → looking a d ≡ called (looks place) d
-  told_counter e f = told _ _ (look_state d g).1 e f
+pub map_whole : (s : State) (q m : List ℕ) → 0 ≡ tried_first s q m → length m ≡ 24576
+map_whole s q m f = (stands s q m f).size
 
-  pub told_red : place ≡ 0x2 → a ≡ seen d.port.red → looking a d ≡ called (looks place) d
-  told_red e f = told _ _ (look_state d g).2 e f
+module _ (s : State) (q m : List ℕ) (place : ℕ) where
+  abbrev given : Chip
+  given = view (handed s q m)
 
-  pub told_green : place ≡ 0x3 → a ≡ seen d.port.green → looking a d ≡ called (looks place) d
-  told_green e f = told _ _ (look_state d g).3 e f
+  abbrev Tells_of : ℕ → Type 0
+  Tells_of v = looking (seen v) given ≡ called (looks place) given
 
-  pub told_command : place ≡ 0x4 → a ≡ seen d.control.command → looking a d ≡ called (looks place) d
-  told_command e f = told _ _ (look_state d g).4 e f
+  -- refused by what every call tries first
+  pub stopped : (r : Refusal) → number r ≡ tried_first s q m
+      → looking (unseen (number r)) given ≡ called (looks place) given
+  unfolding called_by
+  stopped r f = look_stops _ _ (found (look_places given) place) given _ f (number_positive r) refl
 
-  pub told_readmode : place ≡ 0x5 → a ≡ seen d.control.readmode → looking a d ≡ called (looks place) d
-  told_readmode e f = told _ _ (look_state d g).5 e f
+  module _ (f : 0 ≡ tried_first s q m) where
+    -- a byte of the map, and a place that is not there
+    pub told_byte : 0x10000 ≤ place → place < 0x16000 → (v : ℕ) → v ≡ get_or m (place - 0x10000) 0 → Tells_of v
+    told_byte l u v e =
+        rw e (sym (look_map _ (stands s q m f) place (place - 0x10000) (omega arith) (omega arith)))
 
-  pub told_revision : place ≡ 0x6 → a ≡ seen d.ident.revision → looking a d ≡ called (looks place) d
-  told_revision e f = told _ _ (look_state d g).6 e f
+    pub told_nowhere : 9 ≤ place → (place ≡ 0xC → ⊥) → (0x10000 ≤ place → place < 0x16000 → ⊥)
+        → looking (unseen 3) given ≡ called (looks place) given
+    told_nowhere h i o = sym (look_nowhere _ (stands s q m f) place h i o)
 
-  pub told_board : place ≡ 0x7 → a ≡ seen d.ident.board → looking a d ≡ called (looks place) d
-  told_board e f = told _ _ (look_state d g).7 e f
+    -- a place of the state
+    module _ (v : ℕ) where
+      told_at : (k n : ℕ) → Tells given (stands s q m f) k n → place ≡ k → v ≡ n → Tells_of v
+      told_at k n w e d = rw (e, d) (sym w)
 
-  -- how many wait
-  pub told_waiting : (f : Fifo) (q : List ℕ) → d.waiting ≡ colours f q → place ≡ 0x8 → a ≡ seen f.waiting
-      → looking a d ≡ called (looks place) d
-  told_waiting f q w e h =
-      rw e (looked_as a h (accepts_as (look_state d g).8 (sym (how_many f q) ∙ ap length (sym w))))
+      pub told_address : place ≡ 0x0 → v ≡ s.port.address → Tells_of v
+      told_address e d = told_at _ _ (look_state _ (stands s q m f)).0 e d
 
-  pub told_first : place ≡ 0xC → a ≡ seen d.lent.first → looking a d ≡ called (looks place) d
-  told_first e f = told _ _ (look_state d g).9 e f
+      pub told_counter : place ≡ 0x1 → v ≡ s.port.counter → Tells_of v
+      told_counter e d = told_at _ _ (look_state _ (stands s q m f)).1 e d
 
--- the places of the state
-pub ruleset state_told = (
+      pub told_red : place ≡ 0x2 → v ≡ s.port.red → Tells_of v
+      told_red e d = told_at _ _ (look_state _ (stands s q m f)).2 e d
+
+      pub told_green : place ≡ 0x3 → v ≡ s.port.green → Tells_of v
+      told_green e d = told_at _ _ (look_state _ (stands s q m f)).3 e d
+
+      pub told_command : place ≡ 0x4 → v ≡ s.control.command → Tells_of v
+      told_command e d = told_at _ _ (look_state _ (stands s q m f)).4 e d
+
+      pub told_readmode : place ≡ 0x5 → v ≡ s.control.readmode → Tells_of v
+      told_readmode e d = told_at _ _ (look_state _ (stands s q m f)).5 e d
+
+      pub told_revision : place ≡ 0x6 → v ≡ s.ident.revision → Tells_of v
+      told_revision e d = told_at _ _ (look_state _ (stands s q m f)).6 e d
+
+      pub told_board : place ≡ 0x7 → v ≡ s.ident.board → Tells_of v
+      told_board e d = told_at _ _ (look_state _ (stands s q m f)).7 e d
+
+      -- how many wait
+      pub told_waiting : place ≡ 0x8 → v ≡ s.fifo.waiting → Tells_of v
+      told_waiting e d = told_at _ _ (look_state _ (stands s q m f)).8 e (d ∙ sym (how_many s.fifo q))
+
+      pub told_first : place ≡ 0xC → v ≡ s.fifo.first → Tells_of v
+      told_first e d = told_at _ _ (look_state _ (stands s q m f)).9 e d
+
+-- what a look tells
+pub ruleset told = (
+  stopped,
+  map_whole,
+  told_byte,
+  told_nowhere,
   told_address,
   told_counter,
   told_red,
@@ -60,5 +101,4 @@ pub ruleset state_told = (
   told_board,
   told_waiting,
   told_first,
-  rules,
 )

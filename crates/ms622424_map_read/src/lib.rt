@@ -5,26 +5,27 @@
 // specs/Ms622424.antt says it (`answers`, `read_refusals`). Not modelled: the pixels that a read of the map disturbs.
 #![tactic(auto)]
 
-ghost use Rattle.std.specs.Prelude.{◌≡◌, List, ℕ, ◌<◌, length};
+ghost use Rattle.std.specs.Prelude.{◌≡◌, List, ℕ, ◌<◌};
 ghost use Rattle.ms622424.specs.Ms622424.{InRange, reads, called};
 ghost use Rattle.ms622424_places.specs.Places.{handed, view, outcome, Does};
 
 use ms622424_places::{Answer, State};
-use ms622424_port::{accepted, refused};
+use ms622424_port::{accepted, refused, step};
+use vocabulary::Refusal;
 
 // A read of the Color Palette, on a chip in range whatever queue keeps it.
-pub fn read_palette(s: State, map: &[u8]) -> Answer
-    requires { (length map.now ≡ 24576) × (s.port.address < 8192) × (s.port.counter < 3) }
+pub fn read_palette(s: State, map: &[u8; 24576]) -> Answer
+    requires { (s.port.address < 8192) × (s.port.counter < 3) }
     ensures { (q : List ℕ) → InRange (view (handed s q map.now))
         → Does (handed s q map.now) (outcome result q map.now) (called (reads 2)) }
 {
     if s.control.readmode == 0 {
-        return refused(5, s);
+        return refused(Refusal::ReadMode, s);
     }
     if s.fifo.waiting != 0 {
-        return refused(6, s);
+        return refused(Refusal::StillWaiting, s);
     }
     let at = 3 * (s.port.address as usize) + (s.port.counter as usize);
-    let p = ms622424_port::step(s.port);
-    accepted(map[at], 0, State { port: p, ..s })
+    let port = step(s.port);
+    accepted(map[at], 0, State { port, ..s })
 }

@@ -8,11 +8,12 @@ ghost use Rattle.std.specs.Prelude.{◌≡◌};
 ghost use Rattle.ms622424.specs.Ms622424.{InRange, palette, written, writes, called};
 ghost use Rattle.ms622424_places.specs.Places.{handed, view, outcome, seen, Does};
 
-use ms622424_places::{Answer, State};
+use ms622424_places::{Answer, Map, Queue, State};
 use ms622424_port::{accepted, refused};
+use vocabulary::Refusal;
 
 // A byte with room made for it.
-fn with_room(s: State, byte: u8, queue: &mut [u64], map: &mut [u8]) -> Answer
+fn with_room(s: State, byte: u8, queue: &mut Queue, map: &mut Map) -> Answer
     requires { InRange (view (handed s queue.old map.old)) }
     ensures { seen (outcome result queue.new map.new)
         ≡ written palette byte (view (handed s queue.old map.old)) }
@@ -22,13 +23,13 @@ fn with_room(s: State, byte: u8, queue: &mut [u64], map: &mut [u8]) -> Answer
 }
 
 // A write to the Color Palette Buffer: refused in read mode.
-pub fn write_palette(s: State, byte: u8, queue: &mut [u64], map: &mut [u8]) -> Answer
+pub fn write_palette(s: State, byte: u8, queue: &mut Queue, map: &mut Map) -> Answer
     requires { InRange (view (handed s queue.old map.old)) }
     ensures { Does (handed s queue.old map.old)
         (outcome result queue.new map.new) (called (writes 2 byte)) }
 {
     if s.control.readmode == 1 {
-        return refused(5, s);
+        return refused(Refusal::ReadMode, s);
     }
     with_room(s, byte, queue, map)
 }

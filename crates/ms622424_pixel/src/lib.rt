@@ -6,48 +6,39 @@
 #![tactic(auto)]
 
 ghost use Rattle.std.specs.Prelude.{◌≡◌};
+ghost use Rattle.vocabulary.specs.Pixel.{showing, telling_pixel};
 ghost use Rattle.ms622424.specs.Ms622424.{pixels, called};
-ghost use Rattle.vocabulary.specs.Pixel.{showing, dark};
 ghost use Rattle.ms622424_places.specs.Places.{handed, view};
 
 use ms622424_entry::entry;
 use ms622424_places::State;
-use vocabulary::Shown;
+use ms622424_range::standing_tables;
+use vocabulary::{Colour, Refusal, Shown};
 
-// A refused pixel: no colour.
-fn refused(refusal: u8) -> Shown
-    ensures { result ≡ dark refusal }
-{
-    Shown {
-        refusal: refusal,
-        red: 0,
-        green: 0,
-        blue: 0,
-    }
-}
-
-// The colour of a pixel.
-pub fn zk_b_pixel(s: State, mode: u8, word: u32, queue: &[u64], map: &[u8]) -> Shown
-    ensures { showing result (view (handed s queue.now map.now))
+// The colour of a pixel, or why there is none.
+#[tactic(auto, using(crate::proofs::Stopped::stopped))]
+fn colour(s: State, mode: u8, word: u32, queue: &[u64], map: &[u8]) -> Result<Colour, Refusal>
+    ensures { showing (telling_pixel result) (view (handed s queue.now map.now))
         ≡ called (pixels mode word) (view (handed s queue.now map.now)) }
 {
-    let refusal = ms622424_range::standing_tables(s, queue, map.len());
-    if refusal != 0 {
-        return refused(refusal);
-    }
-    if 3 < mode {
-        return refused(9);
-    }
-    if 16777215 < word {
-        return refused(9);
+    standing_tables(s, queue, map.len())?;
+    if 3 < mode || 16777215 < word {
+        return Err(Refusal::OutOfRange);
     }
     let red = 3 * entry(mode, word, word % 256);
     let green = 3 * entry(mode, word, word / 256 % 256) + 1;
     let blue = 3 * entry(mode, word, word / 65536) + 2;
-    Shown {
-        refusal: 0,
+    Ok(Colour {
         red: map[red],
         green: map[green],
         blue: map[blue],
-    }
+    })
+}
+
+// What a pixel answers.
+pub fn zk_b_pixel(s: State, mode: u8, word: u32, queue: &[u64], map: &[u8]) -> Shown
+    ensures { showing result (view (handed s queue.now map.now))
+        ≡ called (pixels mode word) (view (handed s queue.now map.now)) }
+{
+    Shown::told(colour(s, mode, word, queue, map))
 }

@@ -6,7 +6,7 @@ use native.Mathlib.Omega.{arith}
 use lib.ListN.{length}
 use Rattle.vocabulary.specs.Outcome.{accepting, refusing}
 use Rattle.ms622424.specs.Ms622424.{Chip, InRange, Moves, made, room_made, port, control, fresh, Call, called}
-use Rattle.ms622424.proofs.Moves.{room_keeps, room_first, room_space}
+use Rattle.ms622424.proofs.Moves.{room_first, room_space}
 use Rattle.ms622424_places.specs.declared.Answer.{Answer}
 use Rattle.ms622424_places.specs.declared.State.{State}
 use Rattle.ms622424_places.specs.Places.{ringed, colours, handed, view, outcome, refuse, accept, seen, Does}
@@ -32,16 +32,14 @@ module _ (s : State) (q m : List ℕ) (a : Answer) (k : Call) where
         keeps = λ z. absurd (z (ap (λ (b : Answer). b.refusal) e));
       }
 
--- with room made, the queue has its places and one is free
+-- with room made, a place is free
 pub has_room : (s : State) (q m : List ℕ) (c : Chip) (n : ℕ) → InRange c → made n (view (handed s q m)) ≡ room_made c
-    → (length q ≡ 64) × (s.fifo.first < 64) × (s.fifo.waiting < 64)
+    → (s.fifo.first < 64) × (s.fifo.waiting < 64)
 has_room s q m c n h e =
-    let l : length q ≡ 64 = ap (λ (x : Moves). x.after.lent.places) e
-    ∙ (room_keeps c ℕ (λ d. d.lent.places) (λ es y f. refl) ∙ h.places) in
     let at = ap (λ (x : Moves). x.after.lent.first) e in
     let many = how_many s.fifo q in
     let same = ap (λ (x : Moves). length x.after.waiting) e in
-    (l, omega (arith, at, room_first c h), omega (arith, many, same, room_space c h))
+    (omega (arith, at, room_first c h), omega (arith, many, same, room_space c h))
 
 -- with the queue emptied and the registers as a reset sets them, the chip is fresh, whatever the places hold
 pub fresh_chip : (s : State) (q m : List ℕ) (first waiting : ℕ) → first ≡ 0 → waiting ≡ 0

@@ -2,7 +2,7 @@
 -- other file of definitions knows a place of the queue.
 use Rattle.std.specs.Prelude.{ℕ, zero, suc, ◌+◌, ◌*◌, ◌/◌, ◌%◌, ◌≡◌, List, [], ◌∷◌, map, length, get_or}
 use Rattle.vocabulary.specs.Outcome.{Outcome}
-use Rattle.ms622424.specs.Ms622424.{Chip, Entry}
+use Rattle.ms622424.specs.Ms622424.{Chip, Entry, InRange}
 use Rattle.ms622424_places.specs.declared.Fifo.{Fifo}
 use Rattle.ms622424_places.specs.declared.State.{State}
 use Rattle.ms622424_places.specs.declared.Answer.{Answer}
@@ -78,6 +78,11 @@ seen o = record { refusal = o.refusal; value = o.value; count = o.count; line = 
 pub record Does (given : Handed) (o : Outcome Handed) (call : Chip → Outcome Chip) : Type 0 where
   pub chip : seen o ≡ call (view given)
   pub keeps : ¬ (o.refusal ≡ 0) → o.left ≡ given
+
+-- the promise of a call that needs no table: of every chip in range with this state, whatever tables keep it
+abbrev pub DoesWhateverLent : State → Answer → (Chip → Outcome Chip) → Type 0
+DoesWhateverLent s a call =
+    (q m : List ℕ) → InRange (view (handed s q m)) → Does (handed s q m) (outcome a q m) call
 
 -- ---- How far it fixes the bytes: all but what the places hold that no entry waits in
 

@@ -7,6 +7,11 @@
 
 use ms622424::{Control, Ident, Port};
 
+// The lent queue's places, and the lent map's bytes.
+pub type Queue = [u64; 64];
+
+pub type Map = [u8; 24576];
+
 // Which place of the lent queue is first, and how many entries wait from there on.
 #[repr(C)]
 #[derive(Clone, Copy)]
@@ -36,6 +41,7 @@ pub struct Answer {
 }
 
 // What transfers leave: how many entries they moved, and the state.
+// Stays: a struct of its own, since a pair without names says less, and an Answer has parts that no transfer gives.
 #[derive(Clone, Copy)]
 pub struct Moved {
     pub count: u8,

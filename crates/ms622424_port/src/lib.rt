@@ -6,18 +6,20 @@
 #![tactic(auto)]
 
 ghost use Rattle.std.specs.Prelude.{◌≡◌};
+ghost use Rattle.vocabulary.specs.Refusal.{number};
 ghost use Rattle.ms622424.specs.Ms622424.{selected, stepped};
 ghost use Rattle.ms622424_places.specs.Places.{accept, refuse};
 
 use ms622424::Port;
 use ms622424_places::{Answer, State};
+use vocabulary::Refusal;
 
 // A refusal: the state as given, value and count 0.
-pub fn refused(refusal: u8, s: State) -> Answer
-    ensures { result ≡ refuse refusal s }
+pub fn refused(r: Refusal, s: State) -> Answer
+    ensures { result ≡ refuse (number r) s }
 {
     Answer {
-        refusal: refusal,
+        refusal: u8::from(r),
         value: 0,
         count: 0,
         state: s,
@@ -30,7 +32,7 @@ pub fn accepted(value: u8, count: u8, s: State) -> Answer
 {
     Answer {
         refusal: 0,
-        value: value,
+        value,
         count: count as u16,
         state: s,
     }
@@ -40,21 +42,13 @@ pub fn accepted(value: u8, count: u8, s: State) -> Answer
 pub fn step(p: Port) -> Port
     ensures { result ≡ stepped (selected p) p }
 {
-    let counter = p.counter;
-    let mut n = p;
-    match counter {
-        0 => {
-            n.counter = 1;
-            n
-        }
-        1 => {
-            n.counter = 2;
-            n
-        }
-        _ => {
-            n.counter = 0;
-            n.address = (p.address % 8192 + 1) % 8192;
-            n
-        }
+    match p.counter {
+        0 => Port { counter: 1, ..p },
+        1 => Port { counter: 2, ..p },
+        _ => Port {
+            address: (p.address % 8192 + 1) % 8192,
+            counter: 0,
+            ..p
+        },
     }
 }

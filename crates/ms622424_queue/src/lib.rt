@@ -6,14 +6,15 @@
 // ms622424.
 #![tactic(auto)]
 
-ghost use Rattle.std.specs.Prelude.{◌≡◌, List, ℕ, ◌<◌, length};
+ghost use Rattle.std.specs.Prelude.{◌≡◌, List, ℕ, ◌<◌};
 ghost use Rattle.ms622424.specs.Ms622424.{complete, completed};
 ghost use Rattle.ms622424_places.specs.Places.{unpacked, handed, view};
 
 use ms622424::Port;
-use ms622424_places::{Fifo, State};
+use ms622424_places::{Fifo, Queue, State};
 
 // The entry that a blue byte completes, as a place holds it.
+// Stays: one number made by sums, since C programs lend the places as numbers, and `packed` is this sum.
 fn entry(p: Port, blue: u8) -> u64
     ensures { unpacked result ≡ completed p blue }
 {
@@ -21,16 +22,16 @@ fn entry(p: Port, blue: u8) -> u64
 }
 
 // The entry that a blue byte completes goes to the queue's end, place (first + waiting) modulo 64.
-pub fn put(s: State, blue: u8, queue: &mut [u64]) -> State
-    requires { (length queue.old ≡ 64) × (s.fifo.first < 64) × (s.fifo.waiting < 64) }
+pub fn put(s: State, blue: u8, queue: &mut Queue) -> State
+    requires { (s.fifo.first < 64) × (s.fifo.waiting < 64) }
     ensures { (m : List ℕ) → view (handed result queue.new m)
         ≡ complete (completed s.port blue) (view (handed s queue.old m)) }
 {
     let last = ((s.fifo.first + s.fifo.waiting) % 64) as usize;
     queue[last] = entry(s.port, blue);
-    let more = Fifo {
-        first: s.fifo.first,
+    let fifo = Fifo {
         waiting: s.fifo.waiting + 1,
+        ..s.fifo
     };
-    State { fifo: more, ..s }
+    State { fifo, ..s }
 }

@@ -27,39 +27,39 @@ parts_low : (l m : List ℕ) (a b : ℕ) → ltb a (2 ^ 37) ≡ all_below 37 l �
     → ltb (bit_or a b) (2 ^ 37) ≡ all_below 37 (l ++ m)
 parts_low l m a b e f = or_below 37 a b ∙ (rw (e, f) refl ∙ sym (every_append _ l m))
 
-module _ (q : List ℕ) (first : ℕ) (size : length q ≡ 64) where
-  -- the bits of the places from one to another
-  abbrev Gathered : ℕ → ℕ → ℕ → Type 0
-  Gathered bits from to = (k : ℕ) → ltb bits (2 ^ k) ≡ all_below k (take (to - from) (drop from q))
+-- the bits of places
+abbrev Gathered : ℕ → List ℕ → Type 0
+Gathered bits l = (k : ℕ) → ltb bits (2 ^ k) ≡ all_below k l
 
+module _ (q : List ℕ) (first : ℕ) (size : length q ≡ 64) where
   -- the waiting entries in one part
-  pub straight_decides : (n bits to : ℕ) → first + n ≤ 64 → Gathered bits first to → to ≡ first + n
+  pub straight_decides : (n bits : ℕ) → first + n ≤ 64 → Gathered bits (take (first + n - first) (drop first q))
       → ltb bits (2 ^ 37) ≡ every is_in_map (entries_in (ringed first n q))
-  straight_decides n bits to h e t =
-      let same : to - first ≡ n = omega arith in
+  straight_decides n bits h e =
+      let same : first + n - first ≡ n = omega arith in
       rw same at (e 37) ∙ rw (ringed_straight first n q size h) (sym (below_in_map _))
 
   -- round the end: the part up to the end, and the part from place 0
-  pub round_decides : (n older younger : ℕ) → first < 64 → 64 ≤ first + n → n ≤ 64 → Gathered older first 64
-      → Gathered younger 0 (first + n - 64)
+  pub round_decides : (n older younger : ℕ) → first < 64 → 64 ≤ first + n → n ≤ 64
+      → Gathered older (take (64 - first) (drop first q)) → Gathered younger (take (first + n - 64) q)
       → ltb (bit_or older younger) (2 ^ 37) ≡ every is_in_map (entries_in (ringed first n q))
   round_decides n older younger h g m e f =
-      let t = take_all (64 - first) (drop first q) (simp length-drop (omega arith)) in
-      let z : first + n - 64 - 0 ≡ first + n - 64 = omega arith in
+      let all = take_all (64 - first) (drop first q) (simp length-drop (omega arith)) in
       rw (ringed_round first n q size (omega arith) g m)
-      (parts_low (drop first q) (take (first + n - 64) q) older younger (rw t at (e 37)) (rw z at (f 37))
+      (parts_low (drop first q) (take (first + n - 64) q) older younger (rw all at (e 37)) (f 37)
       ∙ sym (below_in_map _))
 
   -- all 64, two halves: the ring turned
-  pub full_decides : (n front back : ℕ) → n ≡ 64 → first < 64 → Gathered front 0 32 → Gathered back 32 64
+  pub full_decides : (n front back : ℕ) → n ≡ 64 → first < 64 → Gathered front (take 32 q)
+      → Gathered back (take 32 (drop 32 q))
       → ltb (bit_or front back) (2 ^ 37) ≡ every is_in_map (entries_in (ringed first n q))
   full_decides n front back all h e f =
-      let t = take_all 32 (drop 32 q) (simp length-drop (omega arith)) in
+      let rest = take_all 32 (drop 32 q) (simp length-drop (omega arith)) in
       let same : first + 64 - 64 ≡ first = omega arith in
       let low : ℕ → Bool = λ n. ltb n (2 ^ 37) in
       let turned = ringed_round first 64 q size (omega arith) (omega arith) (omega arith) in
       rw all
-      (parts_low (take 32 q) (drop 32 q) front back (e 37) (rw t at (f 37))
+      (parts_low (take 32 q) (drop 32 q) front back (e 37) (rw rest at (f 37))
       ∙ (ap (all_below 37) (take-append-drop 32 q ∙ sym (take-append-drop first q))
       ∙ (every_append low (take first q) (drop first q)
       ∙ (and_turned (every low (take first q)) (every low (drop first q))

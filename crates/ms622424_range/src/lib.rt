@@ -7,60 +7,51 @@
 
 ghost use Rattle.std.specs.Prelude.{◌≡◌, [], ◌∷◌, length};
 ghost use Rattle.vocabulary.specs.Range.{equal, meets, fails};
-ghost use Rattle.vocabulary.specs.Refusal.{refusal_of, standing};
+ghost use Rattle.vocabulary.specs.Refusal.{refusal_in, refusal_of, standing};
 ghost use Rattle.ms622424.specs.Ms622424.{short_queue, ranges, outside};
 ghost use Rattle.ms622424_places.specs.Places.{handed, view};
 
-use ms622424_places::State;
+use ms622424_places::{Queue, State};
+use vocabulary::Refusal;
 
-// The registers, the queue's places and its entries lie in their ranges.
-fn in_range(s: State, queue: &[u64]) -> bool
-    requires { length queue.now ≡ 64 }
+// The registers, the queue's places and its entries lie in their ranges; red and green are bytes in any state.
+pub fn in_range(s: State, queue: &Queue) -> bool
     ensures { result ≡ meets (ranges (view (handed s queue.now []))) }
 {
-    if 8192 <= s.port.address {
-        return false;
-    }
-    if 3 <= s.port.counter {
-        return false;
-    }
-    if 32 <= s.control.command {
-        return false;
-    }
-    if 2 <= s.control.readmode {
-        return false;
-    }
-    if 8 <= s.ident.revision {
-        return false;
-    }
-    if 16 <= s.ident.board {
+    if 8192 <= s.port.address
+        || 3 <= s.port.counter
+        || 32 <= s.control.command
+        || 2 <= s.control.readmode
+        || 8 <= s.ident.revision
+        || 16 <= s.ident.board
+    {
         return false;
     }
     ms622424_queue_range::queue_in_range(s, queue)
 }
 
 // What every call but a reset tries first, of the state and the queue.
-pub fn standing_queue(s: State, queue: &[u64]) -> u8
-    ensures { result ≡ refusal_of (standing (short_queue (view (handed s queue.now [])))
+pub fn standing_queue(s: State, queue: &[u64]) -> Result<(), Refusal>
+    ensures { refusal_in result ≡ refusal_of (standing (short_queue (view (handed s queue.now [])))
         (outside (view (handed s queue.now [])))) }
 {
-    if queue.len() != 64 {
-        return 1;
+    let Some(places) = queue.as_array::<64>() else {
+        return Err(Refusal::LentLength);
+    };
+    if !in_range(s, places) {
+        return Err(Refusal::OutOfRange);
     }
-    if !in_range(s, queue) {
-        return 9;
-    }
-    0
+    Ok(())
 }
 
 // The same of a call that is lent the map too, of `size` bytes.
-pub fn standing_tables(s: State, queue: &[u64], size: usize) -> u8
-    ensures { result
+pub fn standing_tables(s: State, queue: &[u64], size: usize) -> Result<(), Refusal>
+    ensures { refusal_in result
         ≡ refusal_of (standing (fails (equal (length queue.now) 64 ∷ equal size 24576 ∷ []))
         (outside (view (handed s queue.now [])))) }
 {
     if size != 24576 {
-        return 1;
+        return Err(Refusal::LentLength);
     }
     standing_queue(s, queue)
 }

@@ -13,23 +13,23 @@ ghost use Rattle.ms622424_places.specs.Places.{handed, view, outcome, Does};
 use ms622424::{Control, Port};
 use ms622424_places::{Answer, State};
 use ms622424_port::{accepted, refused};
+use vocabulary::Refusal;
 
 // The Color Buffer Register: red, then green; there is no blue.
 pub fn read_buffer(s: State) -> Answer
     ensures { (q m : List ℕ) → InRange (view (handed s q m))
         → Does (handed s q m) (outcome result q m) (called (reads 5)) }
 {
-    let counter = s.port.counter;
-    match counter {
+    match s.port.counter {
         0 => {
-            let p = Port {
+            let port = Port {
                 counter: 1,
                 ..s.port
             };
-            accepted(s.port.red, 0, State { port: p, ..s })
+            accepted(s.port.red, 0, State { port, ..s })
         }
         1 => accepted(s.port.green, 0, s),
-        _ => refused(3, s),
+        _ => refused(Refusal::NoAccess, s),
     }
 }
 
@@ -47,9 +47,9 @@ pub fn end_read_mode(s: State) -> Answer
     ensures { (q m : List ℕ) → InRange (view (handed s q m))
         → Does (handed s q m) (outcome result q m) (called (reads 7)) }
 {
-    let d = Control {
+    let control = Control {
         readmode: 0,
         ..s.control
     };
-    accepted(0, 0, State { control: d, ..s })
+    accepted(0, 0, State { control, ..s })
 }

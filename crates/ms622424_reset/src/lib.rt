@@ -11,6 +11,7 @@ ghost use Rattle.ms622424_places.specs.Places.{handed, outcome, Does};
 use ms622424::{Control, Port};
 use ms622424_places::{Answer, Fifo, State};
 use ms622424_port::{accepted, refused};
+use vocabulary::Refusal;
 
 // A reset. It is lent no map, and so keeps it; the queue is empty, whatever its places hold.
 pub fn zk_b_reset(s: State, queue: &[u64]) -> Answer
@@ -18,37 +19,27 @@ pub fn zk_b_reset(s: State, queue: &[u64]) -> Answer
         → Does (handed s queue.now m) (outcome result queue.now m) (called resets) }
 {
     if queue.len() != 64 {
-        return refused(1, s);
+        return refused(Refusal::LentLength, s);
     }
-    if 8 <= s.ident.revision {
-        return refused(9, s);
+    if 8 <= s.ident.revision || 16 <= s.ident.board {
+        return refused(Refusal::OutOfRange, s);
     }
-    if 16 <= s.ident.board {
-        return refused(9, s);
-    }
-    let f = Fifo {
-        first: 0,
-        waiting: 0,
-    };
-    let p = Port {
-        address: 0,
-        counter: 0,
-        red: 0,
-        green: 0,
-    };
-    let d = Control {
-        command: 3,
-        readmode: 0,
-    };
-    let i = s.ident;
-    accepted(
-        0,
-        0,
-        State {
-            port: p,
-            control: d,
-            ident: i,
-            fifo: f,
+    let fresh = State {
+        port: Port {
+            address: 0,
+            counter: 0,
+            red: 0,
+            green: 0,
         },
-    )
+        control: Control {
+            command: 3,
+            readmode: 0,
+        },
+        fifo: Fifo {
+            first: 0,
+            waiting: 0,
+        },
+        ..s
+    };
+    accepted(0, 0, fresh)
 }

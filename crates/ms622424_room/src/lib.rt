@@ -8,10 +8,10 @@ ghost use Rattle.std.specs.Prelude.{◌≡◌};
 ghost use Rattle.ms622424.specs.Ms622424.{InRange, made, room_made};
 ghost use Rattle.ms622424_places.specs.Places.{handed, view};
 
-use ms622424_places::{Moved, State};
+use ms622424_places::{Map, Moved, Queue, State};
 
 // A full queue makes room for four entries.
-pub fn make_room(s: State, queue: &[u64], map: &mut [u8]) -> Moved
+pub fn make_room(s: State, queue: &Queue, map: &mut Map) -> Moved
     requires { InRange (view (handed s queue.now map.old)) }
     ensures { made result.count (view (handed result.state queue.now map.new))
         ≡ room_made (view (handed s queue.now map.old)) }

@@ -4,9 +4,8 @@
 // (`written`). What is promised is of a chip in range, whatever tables keep it. Not modelled: as there.
 #![tactic(auto)]
 
-ghost use Rattle.std.specs.Prelude.{List, ℕ};
-ghost use Rattle.ms622424.specs.Ms622424.{InRange, writes, called};
-ghost use Rattle.ms622424_places.specs.Places.{handed, view, outcome, Does};
+ghost use Rattle.ms622424.specs.Ms622424.{writes, called};
+ghost use Rattle.ms622424_places.specs.Places.{DoesWhateverLent};
 
 use ms622424::{Control, Port};
 use ms622424_places::{Answer, State};
@@ -14,40 +13,35 @@ use ms622424_port::accepted;
 
 // The address' low byte; the counter goes to red.
 pub fn set_address_low(s: State, byte: u8) -> Answer
-    ensures { (q m : List ℕ) → InRange (view (handed s q m))
-        → Does (handed s q m) (outcome result q m) (called (writes 0 byte)) }
+    ensures { DoesWhateverLent s result (called (writes 0 byte)) }
 {
-    let p = Port {
-        address: s.port.address / 256 * 256 + (byte as u16),
+    let port = Port {
+        address: s.port.address / 256 * 256 + u16::from(byte),
         counter: 0,
-        red: s.port.red,
-        green: s.port.green,
+        ..s.port
     };
-    accepted(0, 0, State { port: p, ..s })
+    accepted(0, 0, State { port, ..s })
 }
 
 // The address' high five bits; the counter goes to red.
 pub fn set_address_high(s: State, byte: u8) -> Answer
-    ensures { (q m : List ℕ) → InRange (view (handed s q m))
-        → Does (handed s q m) (outcome result q m) (called (writes 1 byte)) }
+    ensures { DoesWhateverLent s result (called (writes 1 byte)) }
 {
-    let p = Port {
-        address: ((byte % 32) as u16) * 256 + s.port.address % 256,
+    let port = Port {
+        address: u16::from(byte % 32) * 256 + s.port.address % 256,
         counter: 0,
-        red: s.port.red,
-        green: s.port.green,
+        ..s.port
     };
-    accepted(0, 0, State { port: p, ..s })
+    accepted(0, 0, State { port, ..s })
 }
 
 // The Command Register.
 pub fn set_command(s: State, byte: u8) -> Answer
-    ensures { (q m : List ℕ) → InRange (view (handed s q m))
-        → Does (handed s q m) (outcome result q m) (called (writes 3 byte)) }
+    ensures { DoesWhateverLent s result (called (writes 3 byte)) }
 {
-    let d = Control {
+    let control = Control {
         command: byte % 32,
-        readmode: s.control.readmode,
+        ..s.control
     };
-    accepted(0, 0, State { control: d, ..s })
+    accepted(0, 0, State { control, ..s })
 }

@@ -5,12 +5,16 @@
 #![tactic(auto)]
 
 ghost use Rattle.std.specs.Prelude.{◌≡◌, List, ℕ, ◌<◌};
-ghost use Rattle.ms622424.specs.Ms622424.{pipe_out, signals as signalsCall, called};
+ghost use Rattle.ms622424.specs.Ms622424.{pipe_out, signals as signals_call, called};
 ghost use Rattle.ms622424_places.specs.Places.{handed, outcome, Does};
 
 use ms622424_places::{Answer, State};
+use ms622424_port::{accepted, refused};
+use ms622424_range::standing_queue;
+use vocabulary::Refusal;
 
 // The first two signals with command bits 0 and 1, the others with bits 2 and 3.
+#[tactic(auto, using(crate::proofs::Masks::piped_is))]
 fn piped(command: u8, signals: u8) -> u8
     requires { (command < 32) × (signals < 16) }
     ensures { result ≡ pipe_out command signals }
@@ -21,14 +25,13 @@ fn piped(command: u8, signals: u8) -> u8
 // The four timing signals. It is lent no map, since it reads none.
 pub fn zk_b_sync(s: State, signals: u8, queue: &[u64]) -> Answer
     ensures { (m : List ℕ) → Does (handed s queue.now m) (outcome result queue.now m)
-        (called (signalsCall signals)) }
+        (called (signals_call signals)) }
 {
-    let refusal = ms622424_range::standing_queue(s, queue);
-    if refusal != 0 {
-        return ms622424_port::refused(refusal, s);
+    if let Err(r) = standing_queue(s, queue) {
+        return refused(r, s);
     }
     if 15 < signals {
-        return ms622424_port::refused(9, s);
+        return refused(Refusal::OutOfRange, s);
     }
-    ms622424_port::accepted(piped(s.control.command, signals), 0, s)
+    accepted(piped(s.control.command, signals), 0, s)
 }

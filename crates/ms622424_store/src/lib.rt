@@ -4,13 +4,16 @@
 // (`stored`, `all_stored`), and ms622424_places how a place holds an entry. Not modelled: what the output shows then.
 #![tactic(auto)]
 
-ghost use Rattle.std.specs.Prelude.{◌≡◌, ℕ, ◌+◌, ◌%◌, ◌^◌, ◌≤◌, ◌<◌, min, length, get_or};
-ghost use Rattle.ms622424.specs.Ms622424.{stored, all_stored};
+ghost use Rattle.std.specs.Prelude.{◌≡◌, ◌^◌, ◌≤◌, ◌<◌, true, min};
+ghost use Rattle.vocabulary.specs.Every.{every};
+ghost use Rattle.ms622424.specs.Ms622424.{is_in_map, stored, all_stored};
 ghost use Rattle.ms622424_places.specs.Places.{unpacked, entries_in, ringed};
 
+use ms622424_places::{Map, Queue};
+
 // An entry's three bytes go into the map.
-fn store(map: &mut [u8], place: u64)
-    requires { (length map.old ≡ 24576) × (place < 2 ^ 37) }
+fn store(map: &mut Map, place: u64)
+    requires { place < 2 ^ 37 }
     ensures { map.new ≡ stored (unpacked place) map.old }
 {
     let at = 3 * ((place / 16777216) as usize);
@@ -19,43 +22,38 @@ fn store(map: &mut [u8], place: u64)
     map[at + 2] = (place / 65536 % 256) as u8;
 }
 
-// Each slot moves the oldest entry that is left of a row of places, if one is, into the map: how many they moved.
-fn store_row(from: usize, waiting: usize, slots: usize, queue: &[u64], map: &mut [u8]) -> usize
-    requires sizes { (length map.old ≡ 24576) × (length queue.now ≡ 64) × (from + waiting ≤ 64) }
-    requires places_low { (i : ℕ) → i < waiting → get_or queue.now ((from + i) % 64) 0 < 2 ^ 37 }
-    ensures count { result ≡ min slots waiting }
-    ensures map_after { map.new
-        ≡ all_stored (entries_in (ringed from result queue.now)) map.old }
+// The entries of a row of places go into the map, in the row's order.
+fn store_row(places: &[u64], map: &mut Map)
+    requires { every is_in_map (entries_in places.now) ≡ true }
+    ensures { map.new ≡ all_stored (entries_in places.now) map.old }
 {
-    let mut moved: usize = 0;
-    while moved < slots {
-        if waiting <= moved {
-            break;
-        }
-        store(map, queue[from + moved]);
-        moved += 1;
+    for place in places {
+        store(map, *place);
     }
-    moved
 }
 
-// The same of all that wait: those up to the places' end, and with the slots that are left those from place 0 on.
+// Each slot moves the oldest waiting entry, if one waits, into the map: how many they moved. Those that move lie in one
+// row, or round the places' end in two.
 pub fn store_oldest(
     first: usize,
     waiting: usize,
     slots: usize,
-    queue: &[u64],
-    map: &mut [u8],
+    queue: &Queue,
+    map: &mut Map,
 ) -> usize
-    requires sizes { (length map.old ≡ 24576) × (length queue.now ≡ 64) × (first < 64) × (waiting ≤ 64) }
-    requires places_low { (i : ℕ) → i < waiting → get_or queue.now ((first + i) % 64) 0 < 2 ^ 37 }
+    requires sizes { (first < 64) × (waiting ≤ 64) }
+    requires in_map { every is_in_map (entries_in (ringed first waiting queue.now)) ≡ true }
     ensures count { result ≡ min slots waiting }
     ensures map_after { map.new
         ≡ all_stored (entries_in (ringed first result queue.now)) map.old }
 {
-    let back = 64 - first;
-    if waiting <= back {
-        return store_row(first, waiting, slots, queue, map);
+    let moved = slots.min(waiting);
+    let end = first + moved;
+    if end <= 64 {
+        store_row(&queue[first..end], map);
+        return moved;
     }
-    let moved = store_row(first, back, slots, queue, map);
-    moved + store_row(0, waiting - back, slots - moved, queue, map)
+    store_row(&queue[first..], map);
+    store_row(&queue[..end - 64], map);
+    moved
 }

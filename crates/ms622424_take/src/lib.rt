@@ -4,48 +4,44 @@
 // (`taken`). Not modelled: as in ms622424_palette.
 #![tactic(auto)]
 
-ghost use Rattle.std.specs.Prelude.{◌≡◌, List, ℕ, ◌<◌, length};
+ghost use Rattle.std.specs.Prelude.{◌≡◌, List, ℕ, ◌<◌};
 ghost use Rattle.ms622424.specs.Ms622424.{selected, taken};
 ghost use Rattle.ms622424_places.specs.Places.{handed, view};
 
 use ms622424::Port;
-use ms622424_places::State;
+use ms622424_places::{Queue, State};
 
 // A byte for the palette, with room in the queue: red and green go to the buffer, blue completes.
-pub fn take_byte(s: State, byte: u8, queue: &mut [u64]) -> State
-    requires { (length queue.old ≡ 64) × (s.fifo.first < 64) × (s.fifo.waiting < 64) }
+pub fn take_byte(s: State, byte: u8, queue: &mut Queue) -> State
+    requires { (s.fifo.first < 64) × (s.fifo.waiting < 64) }
     ensures { (m : List ℕ) → view (handed result queue.new m)
         ≡ taken (selected s.port) byte (view (handed s queue.old m)) }
 {
-    let counter = s.port.counter;
-    match counter {
+    match s.port.counter {
         0 => {
-            let p = Port {
-                address: s.port.address,
+            let port = Port {
                 counter: 1,
                 red: byte,
-                green: s.port.green,
+                ..s.port
             };
-            State { port: p, ..s }
+            State { port, ..s }
         }
         1 => {
-            let p = Port {
-                address: s.port.address,
+            let port = Port {
                 counter: 2,
-                red: s.port.red,
                 green: byte,
+                ..s.port
             };
-            State { port: p, ..s }
+            State { port, ..s }
         }
         _ => {
             let n = ms622424_queue::put(s, byte, queue);
-            let p = Port {
+            let port = Port {
                 address: (s.port.address % 8192 + 1) % 8192,
                 counter: 0,
-                red: s.port.red,
-                green: s.port.green,
+                ..s.port
             };
-            State { port: p, ..n }
+            State { port, ..n }
         }
     }
 }

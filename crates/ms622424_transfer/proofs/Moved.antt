@@ -1,31 +1,15 @@
 -- Laws of what a transfer leaves. Assumes nothing.
-use Prim.Native.Nat.{ℕ, zero, suc, ◌+◌, ◌-◌, ◌%◌, ◌^◌, ◌<◌, min}
+use Prim.Native.Nat.{ℕ, zero, suc, ◌+◌, ◌-◌, ◌%◌, min}
 use mathlib.Core.Path.{◌≡◌, refl, sym, ap, ◌∙◌}
-use mathlib.Core.Bool.{true}
 use mathlib.Core.List.{List, [], ◌∷◌, map}
 use native.Mathlib.Omega.{arith}
-use borrow.Author.Tests.{ltb-true}
-use lib.Dec.{ltb}
-use lib.ListN.{get_or, take}
-use Rattle.vocabulary.specs.Every.{every}
-use Rattle.vocabulary.proofs.Every.{every_at}
-use Rattle.ms622424.specs.Ms622424.{Entry, InRange, is_in_map, all_stored, made, moves}
+use lib.ListN.{take}
+use Rattle.ms622424.specs.Ms622424.{Entry, InRange, all_stored, made, moves}
 use Rattle.ms622424.proofs.Moves.{moves_least, first_after_lem}
-use Rattle.ms622424_places.specs.declared.Fifo.{Fifo}
 use Rattle.ms622424_places.specs.declared.State.{State}
 use Rattle.ms622424_places.specs.Places.{unpacked, entries_in, ringed, colours, handed, with_fifo, view}
-use Rattle.ms622424_places.proofs.Ring.{ringed_length, ringed_at, ringed_take}
-use Rattle.ms622424_places.proofs.Places.{fifo, how_many, below_in_map, oldest_taken}
-
--- ---- a waiting entry's place is below 2 ^ 37
-pub place_below : (f : Fifo) (q : List ℕ) → every is_in_map (colours f q) ≡ true → (i : ℕ) → i < f.waiting
-    → get_or q ((f.first + i) % 64) 0 < 2 ^ 37
-unfolding colours
-place_below f q e i h =
-    let l = ringed f.first f.waiting q in
-    let long = ringed_length f.first f.waiting q in
-    let one = every_at (λ (n : ℕ). ltb n (2 ^ 37)) l 0 (sym (below_in_map l) ∙ e) i (omega arith) in
-    rw (ringed_at f.first f.waiting q i h) at (ltb-true (get_or l i 0) (2 ^ 37) one)
+use Rattle.ms622424_places.proofs.Ring.{ringed_take}
+use Rattle.ms622424_places.proofs.Places.{fifo, how_many, oldest_taken}
 
 module _ {A B : Type 0} (f : A → B) where
   map_take : (k : ℕ) (l : List A) → map f (take k l) ≡ take k (map f l)

@@ -9,10 +9,11 @@ ghost use Rattle.std.specs.Prelude.{◌≡◌};
 ghost use Rattle.ms622424.specs.Ms622424.{InRange, made, moves};
 ghost use Rattle.ms622424_places.specs.Places.{handed, view};
 
-use ms622424_places::{Fifo, Moved, State};
+use ms622424_places::{Fifo, Map, Moved, Queue, State};
 
 // The moves of `slots` slots: into the map, every place as it was.
-pub fn transfer(s: State, slots: u32, queue: &[u64], map: &mut [u8]) -> Moved
+// Stays: `InRange` asked of state and tables apart, since a ghost field beside a lent table gets no generated proof.
+pub fn transfer(s: State, slots: u32, queue: &Queue, map: &mut Map) -> Moved
     requires { InRange (view (handed s queue.now map.old)) }
     ensures { made result.count (view (handed result.state queue.now map.new))
         ≡ moves slots (view (handed s queue.now map.old)) }
@@ -20,13 +21,12 @@ pub fn transfer(s: State, slots: u32, queue: &[u64], map: &mut [u8]) -> Moved
     let first = s.fifo.first as usize;
     let waiting = s.fifo.waiting as usize;
     let moved = ms622424_store::store_oldest(first, waiting, slots as usize, queue, map);
-    let left = Fifo {
+    let fifo = Fifo {
         first: ((first + moved) % 64) as u8,
         waiting: (waiting - moved) as u8,
     };
-    let after = State { fifo: left, ..s };
     Moved {
         count: moved as u8,
-        state: after,
+        state: State { fifo, ..s },
     }
 }

@@ -1,6 +1,4 @@
 // A line's call made, and its answer printed.
-ghost use Rattle.std.specs.Prelude.{◌≤◌};
-
 use super::show;
 use ms622424::{Control, Ident, Port};
 use ms622424_places::{Answer, Fifo, State};
@@ -14,24 +12,21 @@ pub fn fresh() -> State {
 }
 
 fn given(line: &[u8]) -> State {
-    let p = Port {
-        address: script::word(line, 2),
-        counter: byte(line, 7),
-        red: byte(line, 10),
-        green: byte(line, 13),
-    };
-    let d = Control {
-        command: byte(line, 16),
-        readmode: byte(line, 19),
-    };
-    let i = Ident {
-        revision: byte(line, 22),
-        board: byte(line, 25),
-    };
     State {
-        port: p,
-        control: d,
-        ident: i,
+        port: Port {
+            address: script::word(line, 2),
+            counter: byte(line, 7),
+            red: byte(line, 10),
+            green: byte(line, 13),
+        },
+        control: Control {
+            command: byte(line, 16),
+            readmode: byte(line, 19),
+        },
+        ident: Ident {
+            revision: byte(line, 22),
+            board: byte(line, 25),
+        },
         fifo: Fifo {
             first: byte(line, 28),
             waiting: byte(line, 31),
@@ -39,36 +34,25 @@ fn given(line: &[u8]) -> State {
     }
 }
 
-// How many bytes a line of colours has written: three of each.
-fn count(line: &[u8]) -> usize
-    ensures { result ≤ 765 }
-{
-    let from = byte(line, 2);
-    let to = byte(line, 5);
-    if script::command(line) == b'c' {
-        return 3;
-    }
-    if from <= to {
-        return 3 * ((to - from) as usize);
-    }
-    0
+// A byte of a colour written.
+fn datum(s: State, byte: u8, queue: &mut [u64], map: &mut [u8]) -> State {
+    ms622424_write::zk_b_write(s, 2, byte, queue, map).state
 }
 
-// The byte at a place of them: of the one colour that the line has, or of greys from a number on.
-fn datum(line: &[u8], k: usize) -> u8
-    requires { k ≤ 765 }
-{
-    if script::command(line) == b'c' {
-        return byte(line, 2 + 3 * k);
+// A colour written: red, green, blue.
+fn colour(mut s: State, line: &[u8], queue: &mut [u64], map: &mut [u8]) -> State {
+    for at in [2, 5, 8] {
+        s = datum(s, byte(line, at), queue, map);
     }
-    std::num::wrapping_add_u8(byte(line, 2), (k / 3 % 256) as u8)
+    s
 }
 
-// A line of colours written.
-fn colours(mut s: State, line: &[u8], queue: &mut [u64], map: &mut [u8]) -> State {
-    for k in 0..count(line) {
-        let a = ms622424_write::zk_b_write(s, 2, datum(line, k), queue, map);
-        s = a.state;
+// Grey colours written, from one number to before another.
+fn greys(mut s: State, line: &[u8], queue: &mut [u64], map: &mut [u8]) -> State {
+    for grey in byte(line, 2)..byte(line, 5) {
+        for _ in 0..3 {
+            s = datum(s, grey, queue, map);
+        }
     }
     s
 }
@@ -131,7 +115,8 @@ pub fn call<W: Write>(
     map: &mut [u8],
 ) -> io::Result<State> {
     match script::command(line) {
-        b'c' | b'g' => Ok(colours(s, line, queue, map)),
+        b'c' => Ok(colour(s, line, queue, map)),
+        b'g' => Ok(greys(s, line, queue, map)),
         b'b' | b'i' | b'v' | b'w' | b'z' => show::answer(out, line, made(s, line, queue, map)),
         _ => kept(out, s, line, queue, map),
     }

@@ -16,8 +16,6 @@
 //   z reset                                      ? look: place**
 #![tactic(auto)]
 
-ghost use Rattle.std.specs.Prelude.{◌<◌};
-
 mod calls;
 mod show;
 
@@ -25,106 +23,69 @@ use ms622424_places::State;
 use std::io;
 use std::io::Write;
 
-// The chip's state, and how many places of the queue and bytes of the map are lent.
-#[derive(Clone, Copy)]
+// The chip's state, the queue and the map, and how many places of the one and bytes of the other are lent.
+#[derive(Drop)]
 struct Bench {
     state: State,
+    queue: [u64; 64],
+    map: [u8; 24577],
     places: usize,
     bytes: usize,
 }
 
-fn lent(s: State, line: &[u8]) -> Bench {
-    Bench {
-        state: s,
-        places: script::byte(line, 2) as usize,
-        bytes: script::word(line, 5) as usize,
-    }
-}
-
-// The queue's places from place 0 on.
-fn fill(queue: &mut [u64; 64], count: usize, number: u64) {
-    for i in 0..64 {
-        if i < count {
-            queue[i] = number;
-        }
-    }
-}
-
-fn long(line: &[u8], at: usize) -> u64
-    ensures { result < 4294967296 }
-{
-    script::long(line, at) as u64
-}
-
+// A number of two halves, the high one first.
 fn waiting(line: &[u8]) -> u64 {
-    long(line, 5) * 4294967296 + long(line, 14)
+    u64::from(script::long(line, 5)) * 4294967296 + u64::from(script::long(line, 14))
 }
 
-// A call on what is lent.
-fn call<W: Write>(
-    out: &mut W,
-    s: State,
-    places: usize,
-    bytes: usize,
-    line: &[u8],
-    queue: &mut [u64],
-    map: &mut [u8],
-) -> io::Result<State> {
-    if places <= queue.len() {
-        if bytes <= map.len() {
-            return calls::call(out, s, line, &mut queue[..places], &mut map[..bytes]);
-        }
+impl Bench {
+    fn lend(&mut self, line: &[u8]) {
+        self.places = usize::from(script::byte(line, 2));
+        self.bytes = usize::from(script::word(line, 5));
     }
-    Ok(s)
-}
 
-fn turn<W: Write>(
-    out: &mut W,
-    b: Bench,
-    line: &[u8],
-    queue: &mut [u64; 64],
-    map: &mut [u8; 24577],
-) -> io::Result<Bench> {
-    match script::command(line) {
-        b'n' => Ok(lent(b.state, line)),
-        b'q' => {
-            fill(queue, script::byte(line, 2) as usize, waiting(line));
-            Ok(b)
-        }
-        _ => {
-            let mut n = b;
-            let next = call(out, b.state, b.places, b.bytes, line, queue, map)?;
-            n.state = next;
-            Ok(n)
+    // The queue's places from place 0 on.
+    fn fill(&mut self, line: &[u8]) {
+        let count = usize::from(script::byte(line, 2));
+        let number = waiting(line);
+        for place in self.queue.iter_mut().take(count) {
+            *place = number;
         }
     }
-}
 
-fn run<W: Write>(
-    out: &mut W,
-    text: &[u8],
-    mut b: Bench,
-    queue: &mut [u64; 64],
-    map: &mut [u8; 24577],
-) -> io::Result<()> {
-    let mut at = 0;
-    while at < text.len() {
-        let to = script::end(text, at);
-        b = turn(out, b, &text[at..to], queue, map)?;
-        at = to + 1;
+    // A call on what is lent.
+    fn call<W: Write>(&mut self, out: &mut W, line: &[u8]) -> io::Result<()> {
+        let queue = self.queue.get_mut(..self.places);
+        let map = self.map.get_mut(..self.bytes);
+        if let (Some(queue), Some(map)) = (queue, map) {
+            self.state = calls::call(out, self.state, line, queue, map)?;
+        }
+        Ok(())
     }
-    Ok(())
+
+    fn turn<W: Write>(&mut self, out: &mut W, line: &[u8]) -> io::Result<()> {
+        match script::command(line) {
+            b'n' => self.lend(line),
+            b'q' => self.fill(line),
+            _ => self.call(out, line)?,
+        }
+        Ok(())
+    }
 }
 
 fn main(rt: HostRuntime) -> io::Result<()> {
     let mut text = [0u8; 8192];
     let n = script::read_full(&mut rt.stdin(), &mut text)?;
-    let mut queue = [0u64; 64];
-    let mut map = [0u8; 24577];
-    let start = Bench {
+    let mut bench = Bench {
         state: calls::fresh(),
+        queue: [0; 64],
+        map: [0; 24577],
         places: 0,
         bytes: 0,
     };
-    run(&mut rt.stdout(), &text[..n], start, &mut queue, &mut map)
+    let mut out = rt.stdout();
+    for line in text[..n].split_inclusive(|b| *b == b'\n') {
+        bench.turn(&mut out, script::line(line))?;
+    }
+    Ok(())
 }

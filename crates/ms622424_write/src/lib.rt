@@ -10,28 +10,34 @@ ghost use Rattle.ms622424_places.specs.Places.{handed, outcome, Does};
 use ms622424::Control;
 use ms622424_places::{Answer, State};
 use ms622424_port::{accepted, refused};
+use vocabulary::Refusal;
 
 // A write of a byte to a select.
 pub fn zk_b_write(s: State, select: u8, byte: u8, queue: &mut [u64], map: &mut [u8]) -> Answer
     ensures { Does (handed s queue.old map.old)
         (outcome result queue.new map.new) (called (writes select byte)) }
 {
-    let refusal = ms622424_range::standing_tables(s, queue, map.len());
-    if refusal != 0 {
-        return refused(refusal, s);
+    let Some(places) = queue.as_mut_array::<64>() else {
+        return refused(Refusal::LentLength, s);
+    };
+    let Some(bytes) = map.as_mut_array::<24576>() else {
+        return refused(Refusal::LentLength, s);
+    };
+    if !ms622424_range::in_range(s, places) {
+        return refused(Refusal::OutOfRange, s);
     }
     match select {
         0 => ms622424_set::set_address_low(s, byte),
         1 => ms622424_set::set_address_high(s, byte),
-        2 => ms622424_palette::write_palette(s, byte, queue, map),
+        2 => ms622424_palette::write_palette(s, byte, places, bytes),
         3 => ms622424_set::set_command(s, byte),
         7 => {
-            let d = Control {
-                command: s.control.command,
+            let control = Control {
                 readmode: 1,
+                ..s.control
             };
-            accepted(0, 0, State { control: d, ..s })
+            accepted(0, 0, State { control, ..s })
         }
-        _ => refused(3, s),
+        _ => refused(Refusal::NoAccess, s),
     }
 }

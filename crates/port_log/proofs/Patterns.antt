@@ -80,7 +80,7 @@ said_long [] t e h = refl
 said_long (f ∷ fs) t e h =
     let tests = both (ltb (length f.pattern) 16) (short fs) e in
     let less = ltb-true (length f.pattern) 16 tests.0 in
-    picks_second _ _ (sym (fits_length f.pattern t (λ same. omega arith))) ∙ said_long fs t tests.1 h
+    picks_second _ _ (fits_length f.pattern t (λ same. omega arith)) ∙ said_long fs t tests.1 h
 
 pub line_long : (t : List ℕ) → 16 ≤ length t → line_of t ≡ Bad
 unfolding short

@@ -1,104 +1,90 @@
-// An output behind a lent buffer: bytes wait there until they are flushed, or there is no room for more.
+// A buffer before an output: bytes wait there until they are flushed, or there is no room for more.
 //
-// What was printed and what waits behind it is `held` of specs/Held.antt: each function says what it puts there, for a
-// writer that says which bytes it holds. After an error some of what waited may have been printed.
+// In a contract a printer is the list of the bytes that wait. What was printed and what waits behind it is `held` of
+// specs/Held.antt: each method says what it puts there, for a writer that says which bytes it holds. After an error some
+// of what waited may have been printed. No heap is a rule of the project, so that std's BufWriter, which has one, does
+// not serve.
 #![tactic(auto)]
 
-ghost use Rattle.std.specs.Prelude.{◌≤◌, ◌<◌, [], ◌∷◌, length, take, IfOk, OnOk};
-ghost use Rattle.std.specs.Io.KnownBytes.{Appends, Keeps};
+ghost use Rattle.std.specs.Prelude.{◌≡◌, ◌+◌, ◌≤◌, List, ℕ, [], ◌++◌, length, take, OnOk, OnErr};
+ghost use Rattle.std.specs.Io.KnownBytes.{Appends};
 ghost use Rattle.printer.specs.Held.{held};
 
 use std::io;
 use std::io::Write;
+use std::marker::Model;
 
-// Prints what waits: all of the buffer, where no less does.
-pub fn flush<W: Write>(to: &mut W, out: &[u8], waiting: usize) -> io::Result<()>
-    ensures printed { OnOk result
-        (Appends (W.contents to.old) (W.contents to.new) (take waiting out.now)) }
-{
-    if waiting <= out.len() {
-        return to.write_all(&out[..waiting]);
-    }
-    to.write_all(out)
-}
-
-// Room for 16 bytes, made by printing what waits where there is none: how many wait then.
-fn room<W: Write>(to: &mut W, out: &[u8; 65536], waiting: usize) -> io::Result<usize>
-    ensures small { IfOk result (λ n. n ≤ 65520) }
-    ensures kept { IfOk result
-        (λ n. Keeps (held (W.contents to.old) out.now waiting) (held (W.contents to.new) out.now n)) }
-{
-    if waiting <= 65520 {
-        return Ok(waiting);
-    }
-    flush(to, out, waiting)?;
-    Ok(0)
-}
-
-// The first `len` of a text's bytes behind those that wait, in one piece: how many wait then.
-pub fn say_text<W: Write>(
-    to: &mut W,
-    bytes: [u8; 16],
-    len: usize,
-    out: &mut [u8; 65536],
+#[derive(Drop)]
+pub struct Printer<const N: usize> {
+    bytes: [u8; N],
     waiting: usize,
-) -> io::Result<usize>
-    ensures small { IfOk result (λ n. n ≤ 65536) }
-    ensures said { len ≤ 16 → IfOk result (λ n.
-        Appends (held (W.contents to.old) out.old waiting) (held (W.contents to.new) out.new n) (take len bytes)) }
-{
-    let at = room(to, out, waiting)?;
-    if len <= 16 {
-        out[at..at + len].copy_from_slice(&bytes[..len]);
-        return Ok(at + len);
-    }
-    Ok(at)
 }
 
-// A byte behind those that wait, which are printed first where there is no room.
-fn put<W: Write>(to: &mut W, b: u8, out: &mut [u8], waiting: usize) -> io::Result<usize>
-    ensures small { IfOk result (λ n. n ≤ length out.new) }
-    ensures said { 0 < length out.old → IfOk result (λ n.
-        Appends (held (W.contents to.old) out.old waiting) (held (W.contents to.new) out.new n) (b ∷ [])) }
-{
-    let mut at = waiting;
-    if out.len() <= at {
-        flush(to, out, at)?;
-        at = 0;
-    }
-    if at < out.len() {
-        out[at] = b;
-        return Ok(at + 1);
-    }
-    Ok(at)
+impl<const N: usize> Model for Printer<N> {
+    ghost Value = { List ℕ };
+
+    ghost view = { λ p. take p.waiting p.bytes };
+
+    ghost invariant = { λ p. p.waiting ≤ N };
 }
 
-// Bytes behind those that wait.
-fn say_all<W: Write>(to: &mut W, bytes: &[u8], out: &mut [u8], waiting: usize) -> io::Result<usize>
-    ensures said { 0 < length out.old → IfOk result (λ n.
-        Appends (held (W.contents to.old) out.old waiting) (held (W.contents to.new) out.new n) bytes.now) }
-{
-    let mut at = waiting;
-    for b in bytes {
-        at = put(to, *b, out, at)?;
+impl<const N: usize> Printer<N> {
+    // Nothing waits.
+    pub fn new() -> Self
+        ensures { result ≡ [] }
+    {
+        Printer {
+            bytes: [0; N],
+            waiting: 0,
+        }
     }
-    Ok(at)
-}
 
-// The first `len` of some bytes behind those that wait: how many wait then.
-pub fn say_first<W: Write>(
-    to: &mut W,
-    bytes: &[u8],
-    len: usize,
-    out: &mut [u8],
-    waiting: usize,
-) -> io::Result<usize>
-    ensures said { 0 < length out.old → len ≤ length bytes.now → IfOk result (λ n.
-        Appends (held (W.contents to.old) out.old waiting) (held (W.contents to.new) out.new n)
-        (take len bytes.now)) }
-{
-    if len <= bytes.len() {
-        return say_all(to, &bytes[..len], out, waiting);
+    // What waits.
+    pub fn waits(&self) -> &[u8]
+        ensures { result.now ≡ self.now }
+    {
+        &self.bytes[..self.waiting]
     }
-    Ok(waiting)
+
+    // Prints what waits.
+    pub fn flush<W: Write>(&mut self, to: &mut W) -> io::Result<()>
+        ensures printed { OnOk result (Appends (W.contents to.old) (W.contents to.new) self.old) }
+        ensures empty { OnOk result (self.new ≡ []) }
+        ensures stays { OnErr result (self.new ≡ self.old) }
+    {
+        to.write_all(self.waits())?;
+        self.waiting = 0;
+        Ok(())
+    }
+
+    // Bytes behind those that wait.
+    fn put(&mut self, bytes: &[u8])
+        requires { length self.old + length bytes.now ≤ N }
+        ensures { self.new ≡ self.old ++ bytes.now }
+    {
+        let end = self.waiting + bytes.len();
+        let all = &mut self.bytes[..];
+        all[self.waiting..end].copy_from_slice(bytes);
+        self.waiting = end;
+    }
+
+    // The same of any number of bytes: where they find no room, what waits is printed first, filled up with them.
+    pub fn say<W: Write>(&mut self, to: &mut W, bytes: &[u8]) -> io::Result<()>
+        ensures { OnOk result (Appends (held (W.contents to.old) self.old)
+            (held (W.contents to.new) self.new) bytes.now) }
+    {
+        let room = N - self.waiting;
+        if bytes.len() <= room {
+            self.put(bytes);
+            return Ok(());
+        }
+        self.put(&bytes[..room]);
+        self.flush(to)?;
+        let rest = &bytes[room..];
+        if rest.len() > N {
+            return to.write_all(rest);
+        }
+        self.put(rest);
+        Ok(())
+    }
 }

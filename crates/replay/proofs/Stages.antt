@@ -1,13 +1,11 @@
 -- How far a log is answered, and what a turn does to that.
-use Rattle.std.proofs.Common.{ℕ, ◌+◌, ◌-◌, ◌<◌, ◌≤◌, ◌≡◌, ◌⊎◌, List, [], ◌++◌, length, take, drop, slice_range, None}
-use Rattle.std.proofs.Common.{Some, Result, Ok, Err, OnOk, ltb, inl, inr, refl, sym, ap, ◌∙◌, subst, arith}
-use Rattle.std.proofs.Common.{append_assoc, append-nil, length-append, length-drop, length-take, zero, suc}
+use Rattle.std.proofs.Common.{ℕ, ◌+◌, ◌<◌, ◌≤◌, ◌≡◌, List, [], ◌++◌, length, take, drop, None}
+use Rattle.std.proofs.Common.{Some, Result, Ok, Err, OnOk, Bool, true, false, ltb, refl, sym, ap, ◌∙◌, subst, arith}
+use Rattle.std.proofs.Common.{append_assoc, append-nil, length-append, length-take, zero, suc, ◌∷◌}
 use Rattle.std.specs.declared.option.Option.{Option}
 use Rattle.std.specs.Io.KnownBytes.{Appends, Keeps, IsAtEnd, prepend_known, append_known}
-use Rattle.std.proofs.KnownBytes.{Appends-trans, Appends-kept}
-use Rattle.std.proofs.lemmas.List.{drop-take, take-append-drop}
-use lib.Seq.{drop-drop}
-use mathlib.Core.Logic.{⊎_elim}
+use Rattle.std.proofs.KnownBytes.{Appends-nil, Appends-trans, Appends-kept}
+use Rattle.std.proofs.lemmas.List.{take-append-drop}
 use borrow.Author.Tests.{ltb-false}
 use Rattle.vocabulary.proofs.Choice.{picks_first, picks_second, cases}
 use Rattle.vocabulary.specs.Choice.{pick}
@@ -16,29 +14,19 @@ use Rattle.hold.specs.Hold.{before, up_to}
 use Rattle.hold.proofs.Texts.{up_to_inside}
 use Rattle.feed.specs.Feed.{Desk, fed}
 use Rattle.feed.proofs.Bytes.{fed_more}
-use Rattle.input.specs.declared.Input.{Input}
-use Rattle.input.specs.Input.{unread, coming, last_end, taking, Brings, GoesOn, Ends}
-use Rattle.replay.specs.Replay.{answers}
+use Rattle.input.specs.Input.{coming, Ends}
+use Rattle.replay.specs.Replay.{last_end, answers}
 
--- some of the log is answered, and the rest has fewer bytes than there are turns
-pub record Going (log : List ℕ) (start : Desk) (printed comes shown : Option (List ℕ)) (turns : ℕ) (now : Desk) :
+-- some of the log is answered, a byte or more in each turn, and the rest is still to come
+pub record Going (log : List ℕ) (start : Desk) (printed comes shown : Option (List ℕ)) (now : Desk) (turns : ℕ) :
     Type 0 where
   pub eaten : List ℕ
   pub rest : List ℕ
   pub coming : comes ≡ Some rest
   pub split : log ≡ eaten ++ rest
-  pub few : length rest < turns
+  pub each : turns ≤ length eaten
   pub says : Appends printed shown (fed eaten start).text
   pub left : now ≡ (fed eaten start).left
-
--- all of it is answered
-pub record Over (log : List ℕ) (start : Desk) (printed shown : Option (List ℕ)) (turns : ℕ) : Type 0 where
-  pub none : turns ≡ 0
-  pub says : Appends printed shown (answers log start)
-
-abbrev pub Stage : List ℕ → Desk → Option (List ℕ) → Option (List ℕ) → Option (List ℕ) → ℕ → Desk → Type 0
-Stage log start printed comes shown turns now = Going log start printed comes shown turns now ⊎ Over log start
-    printed shown turns
 
 up_to_some : (t : List ℕ) → 0 < length t → 0 < up_to t
 unfolding up_to
@@ -46,12 +34,6 @@ up_to_some t some =
     cases (ltb (before t) (length t))
     (λ e. rw (picks_first (before t + 1) (before t) e) (omega arith))
     (λ e. let all = ltb-false (before t) (length t) e in rw (picks_second (before t + 1) (before t) e) (omega arith))
-
--- a last line's end is taken whole
-last_taken : (len : ℕ) → take (up_to (last_end len)) (last_end len) ≡ last_end len
-unfolding up_to before pick
-last_taken zero = refl
-last_taken (suc len) = refl
 
 keeps_some : (a : Option (List ℕ)) (rest : List ℕ) → Keeps (Some rest) a → a ≡ Some rest
 keeps_some None rest p = absurd p
@@ -70,140 +52,37 @@ behind : (text : List ℕ) (a : Option (List ℕ)) (rest : List ℕ) → prepend
 behind text None rest e = absurd (let z : ⊥ = cc in z)
 behind text (Some x) rest e = record { more = x; is = refl; split = some_of (text ++ x) rest e }
 
--- what is unread once the first u bytes of it are taken
-unread_after : (chunk : List ℕ) (at got u : ℕ) → at + u ≤ got
-    → slice_range chunk (at + u) got ≡ drop u (slice_range chunk at got)
-unread_after chunk at got u h =
-    let parts : got - at ≡ u + (got - (at + u)) = omega arith in
-    sym (ap (λ n. drop u (take n (drop at chunk))) parts ∙ drop-take u (got - (at + u)) (drop at chunk)
-    ∙ ap (take (got - (at + u))) (drop-drop u at chunk))
+at_end : (a : Option (List ℕ)) (more : List ℕ) → a ≡ Some more → IsAtEnd a → more ≡ []
+at_end None more e p = absurd (let z : ⊥ = cc in z)
+at_end (Some x) more e p = sym (some_of x more e) ∙ p
 
-unread_long : (chunk : List ℕ) (at got : ℕ) → at ≤ got → got ≤ length chunk
-    → length (slice_range chunk at got) ≡ got - at
-unread_long chunk at got h fits = omega (arith, length-take (got - at) (drop at chunk), length-drop at chunk)
+-- a last line's end is taken whole
+line_end : (len : ℕ) → 0 < len → take (up_to (10 ∷ [])) (10 ∷ []) ≡ last_end len
+unfolding up_to before pick
+line_end zero p = absurd (omega arith)
+line_end (suc len) p = refl
 
-nothing_left : (a : Option (List ℕ)) (rest : List ℕ) → a ≡ Some rest → IsAtEnd a → rest ≡ []
-nothing_left None rest e p = absurd (let z : ⊥ = cc in z)
-nothing_left (Some x) rest e p = sym (some_of x rest e) ∙ p
+pub some_line : (a b : Option (List ℕ)) (len : ℕ) (d : Desk) → 0 < len
+    → Appends a b (fed (take (up_to (10 ∷ [])) (10 ∷ [])) d).text → Appends a b (fed (last_end len) d).text
+some_line a b len d h p = subst (λ l. Appends a b (fed l d).text) (line_end len h) p
 
-module _ (log : List ℕ) (start : Desk) (printed : Option (List ℕ)) where
-  -- at the start nothing is answered
-  pub starts : (comes shown : Option (List ℕ)) (turns : ℕ) → comes ≡ Some log → length log < turns
-      → Appends printed shown [] → Stage log start printed comes shown turns start
-  unfolding fed
-  starts comes shown turns coming few says = inl record
-      { eaten = []; rest = log; coming = coming; split = refl; few = few; says = says; left = refl }
+pub no_line : (a : Option (List ℕ)) (len : ℕ) (d : Desk) → len ≤ 0 → Appends a a (fed (last_end len) d).text
+unfolding fed
+no_line a zero d p = Appends-nil a
+no_line a (suc len) d p = absurd (omega arith)
 
-  -- without turns all is answered
-  pub ends : (comes shown : Option (List ℕ)) (turns : ℕ) (now : Desk) → turns ≡ 0
-      → Stage log start printed comes shown turns now → Appends printed shown (answers log start)
-  ends comes shown turns now none s = ⊎_elim (λ g. absurd (let f = g.few in let z : ⊥ = omega arith in z))
-      (λ o. o.says) s
+-- where nothing is left to take
+pub none_left : (t : List ℕ) (more : Bool) → more ≡ false → (0 < length t → more ≡ true) → t ≡ []
+none_left [] more e h = refl
+none_left (x ∷ xs) more e h = absurd (let t : more ≡ true = h (omega arith) in let z : ⊥ = cc in z)
 
-  module _ (len : ℕ) (i r : Input) (chunk chunk' : List ℕ) (before after shown shown' shown'' : Option (List ℕ))
-      (now now' : Desk) (waiting : ℕ)
-      (fits : r.got ≤ length chunk') (kept : Keeps shown shown')
-      (says : Appends shown' shown'' (fed (take (up_to (unread chunk' r)) (unread chunk' r)) now).text)
-      (leaves : now' ≡ (fed (take (up_to (unread chunk' r)) (unread chunk' r)) now).left) where
-    abbrev part : List ℕ
-    part = unread chunk' r
+pub ended : (more : Bool) (a : Option (List ℕ)) → more ≡ false → Ends more a → IsAtEnd a
+ended false a e p = p
+ended true a e p = absurd (let z : ⊥ = cc in z)
 
-    abbrev u : ℕ
-    u = up_to part
-
-    -- what was shown, and behind it what the part answered
-    told : (eaten : List ℕ) → Appends printed shown (fed eaten start).text → now ≡ (fed eaten start).left
-        → Appends printed shown'' (fed (eaten ++ take u part) start).text
-    told eaten before_says left =
-        let all = Appends-trans printed shown' shown'' _ _ (Appends-kept printed shown shown' _ before_says kept)
-        says in
-        let same : (fed (eaten ++ take u part) start).text ≡ (fed eaten start).text ++ (fed (take u part) now).text =
-        ap (λ (t : Turn Desk). t.text) (fed_more eaten (take u part) start)
-        ∙ ap (λ d. (fed eaten start).text ++ (fed (take u part) d).text) (sym left) in
-        subst (Appends printed shown'') (sym same) all
-
-    goes_on : Going log start printed (coming before chunk i) shown i.turns now
-        → GoesOn i (coming before chunk i) r (coming after chunk' r)
-        → Going log start printed (coming after chunk' (taking u waiting r)) shown'' r.turns now'
-    goes_on g b =
-        let comes' = keeps_some (coming after chunk' r) g.rest
-        (subst (λ a. Keeps a (coming after chunk' r)) g.coming b.comes) in
-        let found = behind part after g.rest comes' in
-        let more = found.more in
-        let long = unread_long chunk' r.at r.got (omega (arith, b.more)) fits in
-        let within = up_to_inside part in
-        let some = up_to_some part (omega (arith, long, b.more)) in
-        let split = sym found.split ∙ ap (λ l. l ++ more) (sym (take-append-drop u part))
-        ∙ append_assoc (take u part) (drop u part) more in
-        record {
-          eaten = g.eaten ++ take u part;
-          rest = drop u part ++ more;
-          coming = ap (λ l. prepend_known l after)
-              (unread_after chunk' r.at r.got u (omega (arith, long, within, b.more)))
-              ∙ ap (prepend_known (drop u part)) found.is;
-          split = g.split ∙ ap (λ l. g.eaten ++ l) split
-              ∙ sym (append_assoc g.eaten (take u part) (drop u part ++ more));
-          few =
-              omega (
-                arith,
-                length-append (drop u part) more,
-                length-drop u part,
-                length-append part more,
-                ap length
-                    found.split,
-                g.few,
-                b.turns,
-                some,
-                within,
-              );
-          says = told g.eaten g.says g.left;
-          left =
-              leaves ∙ ap (λ d. (fed (take u part) d).left) g.left
-              ∙ sym (ap (λ (t : Turn Desk). t.left) (fed_more g.eaten (take u part) start));
-        }
-
-    is_over : len ≡ now.hold.len → Going log start printed (coming before chunk i) shown i.turns now
-        → Ends len (coming before chunk i) r after chunk'
-        → Over log start printed shown'' r.turns
-    is_over held g b =
-        let none = nothing_left (coming before chunk i) g.rest g.coming b.before in
-        let all : log ≡ g.eaten = g.split ∙ ap (λ l. g.eaten ++ l) none ∙ append-nil g.eaten in
-        let line : take u part ≡ last_end (fed log start).left.hold.len =
-        ap (λ l. take (up_to l) l) b.line ∙ last_taken len
-        ∙ ap last_end (held ∙ ap (λ (d : Desk). d.hold.len) g.left ∙ ap (λ l. (fed l start).left.hold.len) (sym all)) in
-        let same : g.eaten ++ take u part ≡ log ++ last_end (fed log start).left.hold.len = λ k. sym all k ++ line k in
-        record {
-          none = b.turns;
-          says = subst (λ l. Appends printed shown'' (fed l start).text) same
-              (told g.eaten g.says g.left);
-        }
-
-    pub turned : 0 < i.turns → len ≡ now.hold.len → Brings len i before chunk r after chunk'
-        → Stage log start printed (coming before chunk i) shown i.turns now
-        → Stage log start printed (coming after chunk' (taking u waiting r)) shown'' r.turns now'
-    turned some held b s = ⊎_elim
-        (λ g. ⊎_elim (λ more. inl (goes_on g more)) (λ end. inr (is_over held g end)) b)
-        (λ o. absurd (let e = o.none in let z : ⊥ = omega arith in z))
-        s
-
-  -- the same of a text and an input that are equal to those
-  pub turn_taken : (len : ℕ) (i r taken : Input) (text chunk chunk' : List ℕ)
-      (before after shown shown' shown'' : Option (List ℕ)) (now now' : Desk) (waiting : ℕ)
-      → 0 < i.turns → len ≡ now.hold.len → r.got ≤ length chunk' → text ≡ unread chunk' r
-      → taken ≡ taking (up_to text) waiting r
-      → Brings len i before chunk r after chunk' → Keeps shown shown'
-      → Appends shown' shown'' (fed (take (up_to text) text) now).text
-      → now' ≡ (fed (take (up_to text) text) now).left
-      → Stage log start printed (coming before chunk i) shown i.turns now
-      → Stage log start printed (coming after chunk' taken) shown'' taken.turns now'
-  turn_taken len i r taken text chunk chunk' before after shown shown' shown'' now now' waiting some held fits is
-      same b kept says leaves s =
-      let says' = subst (λ t. Appends shown' shown'' (fed (take (up_to t) t) now).text) is says in
-      let leaves' = subst (λ t. now' ≡ (fed (take (up_to t) t) now).left) is leaves in
-      let same' : taken ≡ taking (up_to (unread chunk' r)) waiting r = same ∙ ap (λ t. taking (up_to t) waiting r) is in
-      subst (λ (t : Input). Stage log start printed (coming after chunk' t) shown'' t.turns now') (sym same')
-      (turned len i r chunk chunk' before after shown shown' shown'' now now' waiting fits kept says' leaves' some
-      held b s)
+pub on_ok : {T E : Type 0} (r : Result T E) {P Q : Type 0} → (P → Q) → OnOk r P → OnOk r Q
+on_ok (Ok x) f p = f p
+on_ok (Err e) f p = tt
 
 -- what waits is printed at the end
 pub flushed : {T E : Type 0} (r : Result T E) (printed a b : Option (List ℕ)) (bytes waits : List ℕ)
@@ -214,3 +93,94 @@ flushed (Ok x) None a b bytes waits p q = tt
 flushed (Ok x) (Some y) None b bytes waits p q = absurd p
 flushed (Ok x) (Some y) (Some z) None bytes waits p q = absurd q
 flushed (Ok x) (Some y) (Some z) (Some w) bytes waits p q = q ∙ p
+
+module _ (log : List ℕ) (start : Desk) (printed : Option (List ℕ)) where
+  -- at the start nothing is answered
+  pub starts : (comes shown : Option (List ℕ)) → comes ≡ Some log → Appends printed shown []
+      → Going log start printed comes shown start 0
+  unfolding fed
+  starts comes shown coming says = record
+      { eaten = []; rest = log; coming = coming; split = refl; each = omega arith; says = says; left = refl }
+
+  -- more bytes behind those that are answered
+  told : (eaten more : List ℕ) (now : Desk) (shown shown' shown'' : Option (List ℕ))
+      → Appends printed shown (fed eaten start).text → now ≡ (fed eaten start).left → Keeps shown shown'
+      → Appends shown' shown'' (fed more now).text
+      → Appends printed shown'' (fed (eaten ++ more) start).text
+  told eaten more now shown shown' shown'' before_says left kept says =
+      let all = Appends-trans printed shown' shown'' _ _ (Appends-kept printed shown shown' _ before_says kept) says in
+      let same : (fed (eaten ++ more) start).text ≡ (fed eaten start).text ++ (fed more now).text =
+      ap (λ (t : Turn Desk). t.text) (fed_more eaten more start)
+      ∙ ap (λ d. (fed eaten start).text ++ (fed more d).text) (sym left) in
+      subst (Appends printed shown'') (sym same) all
+
+  module _ (before after shown shown' shown'' : Option (List ℕ)) (unread text : List ℕ) (now : Desk) (turns : ℕ)
+      (kept : Keeps shown shown') (comes : Keeps (coming before unread) (coming after text)) where
+    -- a turn takes a text up to its first LF
+    pub goes_on : (now' : Desk) → 0 < length text
+        → Appends shown' shown'' (fed (take (up_to text) text) now).text
+        → now' ≡ (fed (take (up_to text) text) now).left
+        → Going log start printed (coming before unread) shown now turns
+        → Going log start printed (coming after (drop (up_to text) text)) shown'' now' (turns + 1)
+    goes_on now' some says leaves g =
+        let u : ℕ = up_to text in
+        let comes' = keeps_some (coming after text) g.rest
+        (subst (λ a. Keeps a (coming after text)) g.coming comes) in
+        let found = behind text after g.rest comes' in
+        let more = found.more in
+        let split = sym found.split ∙ ap (λ l. l ++ more) (sym (take-append-drop u text))
+        ∙ append_assoc (take u text) (drop u text) more in
+        record {
+          eaten = g.eaten ++ take u text;
+          rest = drop u text ++ more;
+          coming = ap (prepend_known (drop u text)) found.is;
+          split = g.split ∙ ap (λ l. g.eaten ++ l) split
+              ∙ sym (append_assoc g.eaten (take u text) (drop u text ++ more));
+          each =
+              omega (
+                arith,
+                length-append g.eaten (take u text),
+                length-take u text,
+                up_to_some text some,
+                up_to_inside text,
+                g.each,
+              );
+          says = told g.eaten (take u text) now shown shown' shown'' g.says g.left kept says;
+          left =
+              leaves ∙ ap (λ d. (fed (take u text) d).left) g.left
+              ∙ sym (ap (λ (t : Turn Desk). t.left) (fed_more g.eaten (take u text) start));
+        }
+
+    -- the same of what is equal to those
+    pub goes_on_at : (rest input : List ℕ) (n : ℕ) (now' : Desk) → rest ≡ text → n ≡ up_to rest
+        → input ≡ drop n text → 0 < length text
+        → Appends shown' shown'' (fed (take (up_to rest) rest) now).text
+        → now' ≡ (fed (take (up_to rest) rest) now).left
+        → Going log start printed (coming before unread) shown now turns
+        → Going log start printed (coming after input) shown'' now' (turns + 1)
+    goes_on_at rest input n now' is count taken some says leaves g =
+        let e : input ≡ drop (up_to text) text = taken ∙ ap (λ k. drop k text) (count ∙ ap up_to is) in
+        subst (λ i. Going log start printed (coming after i) shown'' now' (turns + 1)) (sym e)
+        (goes_on now' some (subst (λ t. Appends shown' shown'' (fed (take (up_to t) t) now).text) is says)
+        (subst (λ t. now' ≡ (fed (take (up_to t) t) now).left) is leaves) g)
+
+    -- at the log's end a last line gets its LF
+    pub ends : text ≡ [] → IsAtEnd after
+        → Going log start printed (coming before unread) shown now turns
+        → Appends shown' shown'' (fed (last_end now.hold.len) now).text
+        → Appends printed shown'' (answers log start)
+    ends none end g says =
+        let comes' = keeps_some (coming after text) g.rest
+        (subst (λ a. Keeps a (coming after text)) g.coming comes) in
+        let found = behind text after g.rest comes' in
+        let rest : g.rest ≡ [] = sym found.split ∙ (λ k. none k ++ at_end after found.more found.is end k) in
+        let all : g.eaten ≡ log = sym (g.split ∙ ap (λ l. g.eaten ++ l) rest ∙ append-nil g.eaten) in
+        let line : last_end now.hold.len ≡ last_end (fed log start).left.hold.len =
+        ap (λ (d : Desk). last_end d.hold.len) (g.left ∙ ap (λ l. (fed l start).left) all) in
+        subst (λ l. Appends printed shown'' (fed l start).text) (λ k. all k ++ line k)
+        (told g.eaten (last_end now.hold.len) now shown shown' shown'' g.says g.left kept says)
+
+-- a log has as many bytes as there are turns, or more, where the turns do not do
+pub too_many : {log : List ℕ} {start : Desk} {printed comes shown : Option (List ℕ)} {now : Desk} {turns : ℕ} (n : ℕ)
+    → Going log start printed comes shown now turns → length log < n → n ≤ turns → ⊥
+too_many n g few all = omega (arith, ap length g.split, length-append g.eaten g.rest, g.each)

@@ -1,5 +1,5 @@
 -- What a replay prints: what its log answers, from the board on a desk.
-use Rattle.std.specs.Prelude.{ℕ, ◌^◌, ◌-◌, ◌<◌, ◌≡◌, List, ◌++◌, length, replicate}
+use Rattle.std.specs.Prelude.{ℕ, zero, suc, ◌^◌, ◌-◌, ◌<◌, ◌≡◌, List, [], ◌∷◌, ◌++◌, length, replicate}
 use Rattle.std.specs.declared.option.Option.{Option}
 use Rattle.std.specs.Io.KnownBytes.{Appends}
 use Rattle.hd153108.specs.Hd153108 as A
@@ -7,13 +7,16 @@ use Rattle.rgb640.specs.Rgb640 as C
 use Rattle.board.specs.Board.{whole, started}
 use Rattle.hold.specs.Hold.{hold}
 use Rattle.feed.specs.Feed.{Desk, desk, fed}
-use Rattle.input.specs.Input.{last_end}
 use Rattle.replay.specs.declared.Stand.{Stand}
 
 -- the board with its tables and the page, and the bytes of a line that are held
-abbrev pub desk_of : Stand → List ℕ → List ℕ → List ℕ → List ℕ → List ℕ → List ℕ → List ℕ → Desk
-desk_of s held colours overlays queue map table page =
-    desk (whole s.board colours overlays queue map table page) (hold held s.len)
+abbrev pub desk_of : Stand → Desk
+desk_of s = desk (whole s.board s.colours s.overlays s.queue s.map s.table s.page) (hold s.hold s.len)
+
+-- an LF behind a last line that has none: `len` bytes of it are held
+abbrev pub last_end : ℕ → List ℕ
+last_end zero = []
+last_end (suc len) = 10 ∷ []
 
 -- what a log answers; a last line without its LF is answered as well
 abbrev pub answers : List ℕ → Desk → List ℕ

@@ -7,150 +7,135 @@
 // (`Replays`), for a reader that says which bytes it has left and a writer that says which it holds.
 #![tactic(auto)]
 
-ghost use Rattle.std.specs.Prelude.{◌≡◌, ℕ, ◌+◌, ◌^◌, ◌<◌, ◌≤◌, List, Some};
+ghost use Rattle.std.specs.Prelude.{◌≡◌, ℕ, ◌-◌, ◌^◌, ◌<◌, List, Some};
 ghost use Rattle.std.specs.Prelude.{length, take as first_of, IfOk, IfSome, OnOk};
 ghost use Rattle.std.specs.Io.KnownBytes.{Appends};
-ghost use Rattle.board.specs.Board.{Answers};
+ghost use Rattle.hd153108.specs.Hd153108.{Chip as AChip};
+ghost use Rattle.rgb640.specs.Rgb640.{Chip as CChip};
+ghost use Rattle.board.specs.Board.{Answered};
 ghost use Rattle.hold.specs.Hold.{up_to};
 ghost use Rattle.feed.specs.Feed.{fed};
 ghost use Rattle.printer.specs.Held.{held};
-ghost use Rattle.input.specs.Input.{at_first, coming, taking};
-ghost use Rattle.replay.specs.Replay.{desk_of, answers, Replays};
+ghost use Rattle.input.specs.Input.{coming};
+ghost use Rattle.replay.specs.Replay.{desk_of, first_desk, IsBlack, last_end, answers, Replays};
 
-use board::Board;
+use board::{Answer, Board};
 use feed_take::Fed;
 use input::Input;
+use printer::Printer;
 use std::io;
 use std::io::{Read, Write};
 
-// The board, how many bytes of a line are held, and the input.
-#[derive(Clone, Copy)]
+// The board with its tables and the page, and the bytes of a line that are held.
+#[derive(Drop)]
 struct Stand {
     board: Board,
+    hold: [u8; 16],
     len: usize,
-    input: Input,
+    colours: [u8; 768],
+    overlays: [u8; 12],
+    queue: [u64; 64],
+    map: [u8; 24576],
+    table: [u16; 3072],
+    page: [u8; 2134],
 }
 
-// Nothing read yet.
-fn begun(board: Board) -> Stand
-    ensures board { result.board ≡ board }
-    ensures len { result.len ≡ 0 }
-    ensures input { result.input ≡ at_first }
+// A board after its first reset, with tables of zeros; no byte is held.
+fn begun() -> Stand
+    ensures { (a : AChip) (c : CChip) → IsBlack a c → desk_of result ≡ first_desk a c }
 {
+    let queue = [0; 64];
     Stand {
-        board: board,
+        board: board_start::start(&queue),
+        hold: [0; 16],
         len: 0,
-        input: input::begun(),
+        colours: [0; 768],
+        overlays: [0; 12],
+        queue,
+        map: [0; 24576],
+        table: [0; 3072],
+        page: [0; 2134],
     }
 }
 
-// The answer behind what waits: its text, and behind it the page's first bytes.
+// An answer behind what waits: a text, or the page's first bytes.
 fn say<W: Write>(
     to: &mut W,
-    f: Fed,
+    answer: &Answer,
     page: &[u8],
-    out: &mut [u8; 65536],
-    waiting: usize,
-) -> io::Result<usize>
-    ensures { (text : List ℕ) → Answers f.step page.now text → IfOk result (λ n.
-        Appends (held (W.contents to.old) out.old waiting) (held (W.contents to.new) out.new n) text) }
+    out: &mut Printer<65536>,
+) -> io::Result<()>
+    ensures { (text : List ℕ) → Answered answer.now page.now text → OnOk result
+        (Appends (held (W.contents to.old) out.old) (held (W.contents to.new) out.new) text) }
 {
-    let bytes = f.step.text.bytes;
-    let at = printer::say_text(to, bytes, f.step.text.len, out, waiting)?;
-    printer::say_first(to, page, f.step.listed, out, at)
-}
-
-// What was taken.
-fn taken(i: Input, f: Fed, waiting: usize) -> Stand
-    requires { i.at + f.taken < 2 ^ 64 }
-    ensures turns { result.input.turns ≡ i.turns }
-    ensures input { result.input ≡ taking f.taken waiting i }
-    ensures board { result.board ≡ f.step.board }
-    ensures len { result.len ≡ f.len }
-{
-    let after = f.step.board;
-    Stand {
-        board: after,
-        len: f.len,
-        input: input::take(i, f.taken, waiting),
+    match answer {
+        Answer::Line(text) => out.say(to, text.as_slice()),
+        Answer::Page(n) => out.say(to, &page[..page.len().min(*n)]),
     }
 }
 
-// A text that was read, put to the board, and its answer behind what waits.
+// A text up to its first LF put to the board, and what that answers behind what waits: how many bytes were taken.
 fn turn<W: Write>(
     to: &mut W,
-    s: Stand,
-    i: Input,
+    s: &mut Stand,
     text: &[u8],
-    hold: &mut [u8; 16],
-    colours: &mut [u8; 768],
-    overlays: &mut [u8; 12],
-    queue: &mut [u64; 64],
-    map: &mut [u8; 24576],
-    table: &mut [u16; 3072],
-    page: &mut [u8; 2134],
-    out: &mut [u8; 65536],
-) -> io::Result<Stand>
-    requires { i.at + length text.now < 2 ^ 64 }
-    ensures turns { IfOk result (λ r. r.input.turns ≡ i.turns) }
-    ensures input { IfOk result
-        (λ r. r.input ≡ taking (up_to text.now) r.input.waiting i) }
-    ensures leaves { IfOk result
-        (λ r. desk_of r hold.new colours.new overlays.new queue.new map.new table.new page.new
-        ≡ (fed (first_of (up_to text.now) text.now)
-        (desk_of s hold.old colours.old overlays.old queue.old map.old table.old page.old)).left) }
-    ensures says { IfOk result
-        (λ r. Appends (held (W.contents to.old) out.old i.waiting)
-        (held (W.contents to.new) out.new r.input.waiting)
-        (fed (first_of (up_to text.now) text.now)
-        (desk_of s hold.old colours.old overlays.old queue.old map.old table.old page.old)).text) }
+    out: &mut Printer<65536>,
+) -> io::Result<usize>
+    ensures taken { IfOk result (λ n. n ≡ up_to text.now) }
+    ensures leaves { OnOk result
+        (desk_of s.new ≡ (fed (first_of (up_to text.now) text.now) (desk_of s.old)).left) }
+    ensures says { OnOk result (Appends (held (W.contents to.old) out.old) (held (W.contents to.new) out.new)
+        (fed (first_of (up_to text.now) text.now) (desk_of s.old)).text) }
 {
-    let f = feed_take::take(
-        s.board, s.len, text, hold, colours, overlays, queue, map, table, page,
+    let Fed { step, len, taken } = feed_take::take(
+        s.board,
+        s.len,
+        text,
+        &mut s.hold,
+        &mut s.colours,
+        &mut s.overlays,
+        &mut s.queue,
+        &mut s.map,
+        &mut s.table,
+        &mut s.page,
     );
-    let waiting = say(to, f, page, out, i.waiting)?;
-    Ok(taken(i, f, waiting))
+    s.board = step.board;
+    s.len = len;
+    say(to, &step.answer, &s.page, out)?;
+    Ok(taken)
+}
+
+// The log's end: a last line without its LF is put to the board as well, and what waits is printed.
+fn end<W: Write>(to: &mut W, s: &mut Stand, out: &mut Printer<65536>) -> io::Result<()>
+    ensures { OnOk result (Appends (held (W.contents to.old) out.old) (W.contents to.new)
+        (fed (last_end (desk_of s.old).hold.len) (desk_of s.old)).text) }
+{
+    if s.len > 0 {
+        turn(to, s, b"\n", out)?;
+    }
+    out.flush(to)
 }
 
 // The whole log.
 fn replay<R: Read, W: Write>(
     from: &mut R,
     to: &mut W,
-    mut s: Stand,
-    chunk: &mut [u8; 65536],
-    hold: &mut [u8; 16],
-    colours: &mut [u8; 768],
-    overlays: &mut [u8; 12],
-    queue: &mut [u64; 64],
-    map: &mut [u8; 24576],
-    table: &mut [u16; 3072],
-    page: &mut [u8; 2134],
-    out: &mut [u8; 65536],
+    input: &mut Input<65536>,
+    s: &mut Stand,
+    out: &mut Printer<65536>,
 ) -> io::Result<()>
-    ensures { (log : List ℕ) → s.input.got ≤ 65536
-        → coming (R.remaining from.old) chunk.old s.input ≡ Some log → length log < s.input.turns
-        → OnOk result (Appends (held (W.contents to.old) out.old s.input.waiting) (W.contents to.new)
-        (answers log
-        (desk_of s hold.old colours.old overlays.old queue.old map.old table.old page.old))) }
+    ensures { (log : List ℕ) → coming (R.remaining from.old) input.old ≡ Some log → length log < 2 ^ 64 - 1
+        → OnOk result (Appends (held (W.contents to.old) out.old) (W.contents to.new) (answers log (desk_of s.old))) }
 {
-    while s.input.turns > 0 {
-        let i = input::next(from, to, s.input, s.len, chunk, out)?;
-        s = turn(
-            to,
-            s,
-            i,
-            input::rest(chunk, i.at, i.got),
-            hold,
-            colours,
-            overlays,
-            queue,
-            map,
-            table,
-            page,
-            out,
-        )?;
+    for _turn in 0..u64::MAX {
+        let more = input.next(from, to, out)?;
+        if !more {
+            return end(to, s, out);
+        }
+        let taken = turn(to, s, input.rest(), out)?;
+        input.take(taken);
     }
-    printer::flush(to, out, s.input.waiting)
+    end(to, s, out)
 }
 
 // A log, from a board after its first reset.
@@ -158,29 +143,12 @@ fn run<R: Read, W: Write>(from: &mut R, to: &mut W) -> io::Result<()>
     ensures { OnOk result
         (IfSome (R.remaining from.old) (Replays (W.contents to.old) (W.contents to.new))) }
 {
-    let mut chunk = [0u8; 65536];
-    let mut hold = [0u8; 16];
-    let mut colours = [0u8; 768];
-    let mut overlays = [0u8; 12];
-    let mut queue = [0u64; 64];
-    let mut map = [0u8; 24576];
-    let mut table = [0u16; 3072];
-    let mut page = [0u8; 2134];
-    let mut out = [0u8; 65536];
-    let board = board_start::start(&queue);
     replay(
         from,
         to,
-        begun(board),
-        &mut chunk,
-        &mut hold,
-        &mut colours,
-        &mut overlays,
-        &mut queue,
-        &mut map,
-        &mut table,
-        &mut page,
-        &mut out,
+        &mut Input::new(),
+        &mut begun(),
+        &mut Printer::new(),
     )
 }
 

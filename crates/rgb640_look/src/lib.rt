@@ -5,46 +5,32 @@
 // Not modelled: as there.
 #![tactic(auto)]
 
-ghost use Rattle.std.specs.Prelude.{◌≤◌, ◌≡◌, length};
-ghost use Rattle.vocabulary.specs.Look.{looking};
-ghost use Rattle.rgb640.specs.Rgb640.{chip, InRange, looks, called};
+ghost use Rattle.std.specs.Prelude.{◌≡◌};
+ghost use Rattle.vocabulary.specs.Look.{looking, telling_look};
+ghost use Rattle.rgb640.specs.Rgb640.{chip, looks, called};
 
-use look::{refused, seen, seen_byte};
 use rgb640::State;
 use rgb640_range::standing_of;
-use vocabulary::Looked;
+use vocabulary::{Looked, Refusal};
 
-// Past the state's places: the table's numbers from 0x10000 on.
-fn table_look(place: u32, table: &[u16]) -> Looked
-    requires past_state { 8 ≤ place }
-    requires table_whole { length table.now ≡ 3072 }
-    ensures { (s : State) → InRange (chip s table.now)
-        → looking result (chip s table.now) ≡ called (looks place) (chip s table.now) }
+// The number at a place: 0 to 7 are of the state, the table's numbers stand from 0x10000 on.
+#[tactic(auto, using(crate::proofs::Places::told))]
+fn look_at(s: State, place: u32, table: &[u16]) -> Result<u16, Refusal>
+    ensures { looking (telling_look result) (chip s table.now) ≡ called (looks place) (chip s table.now) }
 {
-    if place < 0x10000 {
-        return refused(3);
-    }
-    if place < 0x10C00 {
-        return seen(table[(place - 0x10000) as usize]);
-    }
-    refused(3)
-}
-
-// A look at a chip in range: places 0 to 7 are of the state.
-fn look_at(s: State, place: u32, table: &[u16]) -> Looked
-    requires { InRange (chip s table.now) }
-    ensures { looking result (chip s table.now) ≡ called (looks place) (chip s table.now) }
-{
+    standing_of(s, table.len())?;
+    let table: &[u16; 3072] = table.as_array().unwrap();
     match place {
-        0 => seen(s.index),
-        1 => seen_byte(s.place),
-        2 => seen(s.red),
-        3 => seen(s.green),
-        4 => seen(s.fetched.red),
-        5 => seen(s.fetched.green),
-        6 => seen(s.fetched.blue),
-        7 => seen_byte(s.update),
-        _ => table_look(place, table),
+        0 => Ok(s.index),
+        1 => Ok(u16::from(s.place)),
+        2 => Ok(s.red),
+        3 => Ok(s.green),
+        4 => Ok(s.fetched.red),
+        5 => Ok(s.fetched.green),
+        6 => Ok(s.fetched.blue),
+        7 => Ok(u16::from(s.update)),
+        0x10000..=0x10BFF => Ok(table[(place - 0x10000) as usize]),
+        _ => Err(Refusal::NoAccess),
     }
 }
 
@@ -52,9 +38,5 @@ fn look_at(s: State, place: u32, table: &[u16]) -> Looked
 pub fn zk_c_look(s: State, place: u32, table: &[u16]) -> Looked
     ensures { looking result (chip s table.now) ≡ called (looks place) (chip s table.now) }
 {
-    let refusal = standing_of(s, table.len());
-    if refusal != 0 {
-        return refused(refusal);
-    }
-    look_at(s, place, table)
+    look::told(look_at(s, place, table))
 }

@@ -5,27 +5,29 @@
 #![tactic(auto)]
 
 ghost use Rattle.std.specs.Prelude.{◌≡◌};
+ghost use Rattle.vocabulary.specs.Refusal.{number};
 ghost use Rattle.rgb640.specs.Rgb640.{accept, refuse};
 
 use rgb640::{Answer, State};
+use vocabulary::Refusal;
 
 // A call that is refused, and one that is accepted.
-pub fn refused(n: u8, s: State) -> Answer
-    ensures { result ≡ refuse n s }
+pub fn refused(r: Refusal, s: State) -> Answer
+    ensures { result ≡ refuse (number r) s }
 {
     Answer {
-        refusal: n,
+        refusal: u8::from(r),
         value: 0,
         state: s,
     }
 }
 
-pub fn accepted(v: u8, s: State) -> Answer
-    ensures { result ≡ accept v s }
+pub fn accepted(value: u8, s: State) -> Answer
+    ensures { result ≡ accept value s }
 {
     Answer {
         refusal: 0,
-        value: v,
+        value,
         state: s,
     }
 }

@@ -23,23 +23,24 @@ use rgb640::{Answer, Colour, State};
 use std::io;
 use std::io::Write;
 
-fn fill(t: &mut [u16; 3072]) {
-    for i in 0..3072 {
-        t[i] = (i * 4 + 1) as u16;
-    }
+// The chip's state, the table, and how many of its numbers are lent.
+#[derive(Drop)]
+struct Bench {
+    state: State,
+    table: [u16; 3072],
+    size: usize,
 }
 
 fn given(line: &[u8]) -> State {
-    let f = Colour {
-        red: script::word(line, 13),
-        green: script::word(line, 18),
-        blue: script::word(line, 23),
-    };
     State {
         index: script::word(line, 2),
         red: 5,
         green: 6,
-        fetched: f,
+        fetched: Colour {
+            red: script::word(line, 13),
+            green: script::word(line, 18),
+            blue: script::word(line, 23),
+        },
         place: script::byte(line, 7),
         update: script::byte(line, 10),
     }
@@ -55,22 +56,6 @@ fn show<W: Write>(out: &mut W, s: State, command: u8) -> io::Result<()> {
     }
 }
 
-// A line that asks nothing of the table.
-fn alone<W: Write>(out: &mut W, s: State, line: &[u8]) -> io::Result<State> {
-    let command = script::command(line);
-    match command {
-        b'n' => {}
-        b's' => return Ok(given(line)),
-        b'z' => return answer(out, rgb640_reset::zk_c_reset(s)),
-        b'.' => script::line_end(out)?,
-        _ => {
-            script::label(out, line, 2)?;
-            show(out, s, command)?;
-        }
-    }
-    Ok(s)
-}
-
 fn access(s: State, line: &[u8], table: &mut [u16]) -> Answer {
     let port = script::byte(line, 2);
     if script::command(line) == b'w' {
@@ -79,70 +64,63 @@ fn access(s: State, line: &[u8], table: &mut [u16]) -> Answer {
     rgb640_read::zk_c_read(s, port, table)
 }
 
-// An access of what is lent: so many numbers of the table.
-fn lent<W: Write>(
-    out: &mut W,
-    s: State,
-    size: usize,
-    line: &[u8],
-    table: &mut [u16],
-) -> io::Result<State> {
-    if size <= table.len() {
-        return answer(out, access(s, line, &mut table[..size]));
+impl Bench {
+    fn fill(&mut self) {
+        for (i, number) in self.table.iter_mut().enumerate() {
+            *number = (i * 4 + 1) as u16;
+        }
     }
-    Ok(s)
-}
 
-// How many numbers of the table are lent from a line on.
-fn lent_size(size: usize, line: &[u8]) -> usize {
-    if script::command(line) == b'n' {
-        return script::word(line, 2) as usize;
+    // A line that asks nothing of the table.
+    fn alone<W: Write>(&mut self, out: &mut W, line: &[u8]) -> io::Result<()> {
+        let command = script::command(line);
+        match command {
+            b'n' => self.size = usize::from(script::word(line, 2)),
+            b's' => self.state = given(line),
+            b'z' => self.state = answer(out, rgb640_reset::zk_c_reset(self.state))?,
+            b'.' => script::line_end(out)?,
+            _ => {
+                script::label(out, line, 2)?;
+                show(out, self.state, command)?;
+            }
+        }
+        Ok(())
     }
-    size
-}
 
-fn turn<W: Write>(
-    out: &mut W,
-    s: State,
-    size: usize,
-    line: &[u8],
-    table: &mut [u16; 3072],
-) -> io::Result<State> {
-    match script::command(line) {
-        b't' => fill(table),
-        b'e' => print::entry(out, line, table)?,
-        b'?' => print::look(
-            out,
-            line,
-            rgb640_look::zk_c_look(s, script::long(line, 2), table),
-        )?,
-        b'w' | b'r' => return lent(out, s, size, line, table),
-        _ => return alone(out, s, line),
+    // An access of what is lent: so many numbers of the table.
+    fn lent<W: Write>(&mut self, out: &mut W, line: &[u8]) -> io::Result<()> {
+        if let Some(table) = self.table.get_mut(..self.size) {
+            self.state = answer(out, access(self.state, line, table))?;
+        }
+        Ok(())
     }
-    Ok(s)
-}
 
-fn run<W: Write>(
-    out: &mut W,
-    text: &[u8],
-    mut s: State,
-    table: &mut [u16; 3072],
-) -> io::Result<()> {
-    let mut size: usize = 3072;
-    let mut at = 0;
-    while at < text.len() {
-        let to = script::end(text, at);
-        let line = &text[at..to];
-        size = lent_size(size, line);
-        s = turn(out, s, size, line, table)?;
-        at = to + 1;
+    fn turn<W: Write>(&mut self, out: &mut W, line: &[u8]) -> io::Result<()> {
+        match script::command(line) {
+            b't' => self.fill(),
+            b'e' => print::entry(out, line, &self.table)?,
+            b'?' => {
+                let seen = rgb640_look::zk_c_look(self.state, script::long(line, 2), &self.table);
+                print::look(out, line, seen)?;
+            }
+            b'w' | b'r' => self.lent(out, line)?,
+            _ => self.alone(out, line)?,
+        }
+        Ok(())
     }
-    Ok(())
 }
 
 fn main(rt: HostRuntime) -> io::Result<()> {
     let mut text = [0u8; 4096];
     let n = script::read_full(&mut rt.stdin(), &mut text)?;
-    let mut table = [0u16; 3072];
-    run(&mut rt.stdout(), &text[..n], given(b""), &mut table)
+    let mut bench = Bench {
+        state: given(b""),
+        table: [0; 3072],
+        size: 3072,
+    };
+    let mut out = rt.stdout();
+    for line in text[..n].split_inclusive(|b| *b == b'\n') {
+        bench.turn(&mut out, script::line(line))?;
+    }
+    Ok(())
 }

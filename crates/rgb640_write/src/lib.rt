@@ -4,28 +4,26 @@
 // `called (writes ..)` of rgb640's specs/Rgb640.antt. Not modelled: as there.
 #![tactic(auto)]
 
-ghost use Rattle.std.specs.Prelude.{◌≡◌, length};
-ghost use Rattle.rgb640.specs.Rgb640.{chip, standing_of, outcome, writes, called};
+ghost use Rattle.std.specs.Prelude.{◌≡◌};
+ghost use Rattle.rgb640.specs.Rgb640.{chip, InRange, outcome, writes, called};
 
 use rgb640::{Answer, State};
 use rgb640_fetch::prefetch;
+use rgb640_palette::palette_write;
 use rgb640_port::{accepted, refused};
 use rgb640_range::standing_of;
+use vocabulary::Refusal;
 
 // A write of port 6, where the table and the state stand.
-fn data_write(s: State, byte: u8, table: &mut [u16]) -> Answer
-    requires { standing_of (length table.old) s ≡ 0 }
+#[tactic(auto, using(crate::proofs::Arms::data_ends))]
+fn data_write(s: State, byte: u8, table: &mut [u16; 3072]) -> Answer
+    requires { InRange (chip s table.old) }
     ensures { outcome result table.new ≡ called (writes 6 byte) (chip s table.old) }
 {
-    let index = s.index;
-    match index {
-        0x000E => {
-            let mut n = s;
-            n.update = byte;
-            accepted(0, n)
-        }
-        0x4000..=0x43FF => accepted(0, rgb640_palette::palette_write(s, byte, table)),
-        _ => refused(4, s),
+    match s.index {
+        0x000E => accepted(0, State { update: byte, ..s }),
+        0x4000..=0x43FF => accepted(0, palette_write(s, byte, table)),
+        _ => refused(Refusal::NoIndex, s),
     }
 }
 
@@ -34,23 +32,25 @@ fn data_write(s: State, byte: u8, table: &mut [u16]) -> Answer
 pub fn zk_c_write(s: State, port: u8, byte: u8, table: &mut [u16]) -> Answer
     ensures { outcome result table.new ≡ called (writes port byte) (chip s table.old) }
 {
-    let refusal = standing_of(s, table.len());
-    if refusal != 0 {
-        return refused(refusal, s);
+    if let Err(r) = standing_of(s, table.len()) {
+        return refused(r, s);
     }
-    let index = s.index;
-    let mut n = s;
+    let table = table.as_mut_array().unwrap();
     match port {
         4 => {
-            n.index = index / 256 * 256 + (byte as u16);
-            accepted(0, n)
+            let index = s.index / 256 * 256 + (byte as u16);
+            accepted(0, State { index, ..s })
         }
         5 => {
-            n.index = (byte as u16) * 256 + index % 256;
-            n.place = 0;
-            accepted(0, prefetch(n, table))
+            let index = (byte as u16) * 256 + s.index % 256;
+            let set = State {
+                index,
+                place: 0,
+                ..s
+            };
+            accepted(0, prefetch(set, table))
         }
         6 => data_write(s, byte, table),
-        _ => refused(3, s),
+        _ => refused(Refusal::NoAccess, s),
     }
 }

@@ -3,19 +3,21 @@
 //
 // A line's first byte says what is done. Its numbers stand at fixed places, in lower-case hex digits, and behind them a
 // label. What a line holds and where is said by the program that reads it. Of a line that is too short the missing
-// digits are 0: a list is compared by what the program prints. What is printed is said for a writer that says which
-// bytes it holds, a number's hex digits in specs/Text.antt; after an error a part may have been printed. Not modelled:
-// what `fields` prints, which no contract says.
+// digits are 0: a list is compared by what the program prints. The number that digits spell is read in hex_number. What
+// is printed is said for a writer that says which bytes it holds, a number's hex digits in specs/Text.antt; after an
+// error a part may have been printed. Not modelled: what `fields` prints, which no contract says.
 #![tactic(auto)]
 
-ghost use Rattle.std.specs.Prelude.{◌≤◌, ◌<◌, [], ◌∷◌, ◌++◌, length, take, drop, IfOk, OnOk};
+ghost use Rattle.std.specs.Prelude.{◌≡◌, ◌<◌, [], ◌∷◌, ◌++◌, length, get_or, take, drop, IfOk, OnOk};
 ghost use Rattle.std.specs.Io.{ReadsAtMost};
 ghost use Rattle.std.specs.Io.KnownBytes.{Appends, Consumes, IsAtEnd};
 ghost use Rattle.std.specs.Fmt.{decimal};
-ghost use Rattle.script.specs.Text.{padded};
+ghost use Rattle.hex_digits.specs.Hex.{number as spelt};
+ghost use Rattle.script.specs.Text.{padded, without_lf};
 
 use std::io;
 use std::io::{Read, Write};
+use std::slice::Iter;
 
 // Reads up to the text's end or the input's: how many bytes stand at the text's start then.
 pub fn read_full<R: Read>(from: &mut R, text: &mut [u8]) -> io::Result<usize>
@@ -24,6 +26,7 @@ pub fn read_full<R: Read>(from: &mut R, text: &mut [u8]) -> io::Result<usize>
         (λ n. Consumes (R.remaining from.old) (R.remaining from.new) (take n text.new)) }
     ensures end { IfOk result (λ n. n < length text.new → IsAtEnd (R.remaining from.new)) }
 {
+    // Stays: std has no call that fills a slice up to the input's end and says how far it came.
     let mut done = 0;
     while done < text.len() {
         let n = from.read(&mut text[done..])?;
@@ -35,60 +38,46 @@ pub fn read_full<R: Read>(from: &mut R, text: &mut [u8]) -> io::Result<usize>
     Ok(done)
 }
 
-// The byte at a place, or 0 where there is none.
-fn at_place(line: &[u8], at: usize) -> u8 {
-    if at < line.len() { line[at] } else { 0 }
+// A line without the LF at its end.
+pub fn line(text: &[u8]) -> &[u8]
+    ensures { result.now ≡ without_lf text.now }
+{
+    text.strip_suffix(b"\n").unwrap_or(text)
+}
+
+// What stands in a line from a place on.
+fn from(line: &[u8], at: usize) -> &[u8]
+    ensures { result.now ≡ drop at line.now }
+{
+    line.get(at..).unwrap_or(b"")
 }
 
 // What a line says to do.
-pub fn command(line: &[u8]) -> u8 {
-    at_place(line, 0)
-}
-
-fn digit(c: u8) -> u8
-    ensures { result < 16 }
+pub fn command(line: &[u8]) -> u8
+    ensures { result ≡ get_or line.now 0 0 }
 {
-    match c {
-        48..=57 => c - 48,
-        97..=102 => c - 87,
-        _ => 0,
-    }
+    hex_digits::byte(line, 0)
 }
 
-// A number of two hex digits at a place, below the line's end.
-pub fn byte(line: &[u8], at: usize) -> u8 {
-    if at < line.len() {
-        return digit(line[at]) * 16 + digit(at_place(line, at + 1));
-    }
-    0
-}
-
-fn wide(x: u8) -> u16
-    ensures { result < 256 }
+// A number of two hex digits at a place.
+pub fn byte(line: &[u8], at: usize) -> u8
+    ensures { result ≡ spelt 2 0 (drop at line.now) }
 {
-    x as u16
+    hex_number::spelt_byte(from(line, at), 0, 2)
 }
 
 // One of four.
-pub fn word(line: &[u8], at: usize) -> u16 {
-    if at < line.len() {
-        return wide(byte(line, at)) * 256 + wide(byte(line, at + 2));
-    }
-    0
-}
-
-fn wider(x: u16) -> u32
-    ensures { result < 65536 }
+pub fn word(line: &[u8], at: usize) -> u16
+    ensures { result ≡ spelt 4 0 (drop at line.now) }
 {
-    x as u32
+    hex_number::spelt_word(from(line, at), 0, 4)
 }
 
 // One of eight.
-pub fn long(line: &[u8], at: usize) -> u32 {
-    if at < line.len() {
-        return wider(word(line, at)) * 65536 + wider(word(line, at + 4));
-    }
-    0
+pub fn long(line: &[u8], at: usize) -> u32
+    ensures { result ≡ spelt 8 0 (drop at line.now) }
+{
+    hex_number::spelt(from(line, at), 0, 8)
 }
 
 // Prints a name and a decimal number behind it.
@@ -107,32 +96,32 @@ pub fn hex<W: Write>(out: &mut W, name: &[u8], n: u64, width: usize) -> io::Resu
     write!(out, "{n:0width$x}")
 }
 
-// Prints a byte of a text, or the number in its place: how many numbers that is. '%' stands for two hex digits, and
-// '#' for a decimal number.
-fn field<W: Write>(out: &mut W, c: u8, number: u8) -> io::Result<usize>
-    ensures { IfOk result (λ n. n ≤ 1) }
-{
+// Prints a byte of a text, or the next number in its place: '%' stands for two hex digits, and '#' for a decimal
+// number.
+fn field<W: Write>(out: &mut W, c: u8, numbers: &mut Iter<'_, u8>) -> io::Result<()> {
     match c {
         b'%' => {
-            write!(out, "{number:02x}")?;
-            Ok(1)
+            let number = next(numbers);
+            write!(out, "{number:02x}")
         }
         b'#' => {
-            write!(out, "{number}")?;
-            Ok(1)
+            let number = next(numbers);
+            write!(out, "{number}")
         }
-        _ => {
-            out.write_all(&[c])?;
-            Ok(0)
-        }
+        _ => out.write_all(&[c]),
     }
+}
+
+// The next number, or 0 where there is none.
+fn next(numbers: &mut Iter<'_, u8>) -> u8 {
+    numbers.next().copied().unwrap_or(0)
 }
 
 // Prints a text with one of the numbers in each place for one.
 pub fn fields<W: Write>(out: &mut W, names: &[u8], numbers: &[u8]) -> io::Result<()> {
-    let mut k = 0;
-    for i in 0..names.len() {
-        k += field(out, names[i], at_place(numbers, k))?;
+    let mut numbers = numbers.iter();
+    for c in names {
+        field(out, *c, &mut numbers)?;
     }
     Ok(())
 }
@@ -157,23 +146,5 @@ pub fn label<W: Write>(out: &mut W, line: &[u8], at: usize) -> io::Result<()>
 pub fn rest<W: Write>(out: &mut W, line: &[u8], at: usize) -> io::Result<()>
     ensures { OnOk result (Appends (W.contents out.old) (W.contents out.new) (drop at line.now)) }
 {
-    if at <= line.len() {
-        out.write_all(&line[at..])?;
-    }
-    Ok(())
-}
-
-// Where the line that starts at a place ends: at its LF, or where the text does.
-pub fn end(text: &[u8], at: usize) -> usize
-    requires { at ≤ length text.now }
-    ensures { (at ≤ result) × (result ≤ length text.now) }
-{
-    let mut to = at;
-    while to < text.len() {
-        if text[to] == 10 {
-            return to;
-        }
-        to += 1;
-    }
-    to
+    out.write_all(from(line, at))
 }

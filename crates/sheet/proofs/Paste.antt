@@ -1,11 +1,10 @@
 -- Words written over a buffer, one behind the other, and into the rest of it that is lent on. Assumes nothing.
-use Prim.Native.Nat.{ℕ, ◌+◌, ◌-◌, ◌≤◌, ◌<◌}
+use Prim.Native.Nat.{ℕ, ◌+◌, ◌-◌, ◌≤◌}
 use mathlib.Core.Path.{◌≡◌, sym, ap, ◌∙◌}
 use mathlib.Core.List.{List, [], ◌++◌, append_assoc, append-nil}
-use native.Mathlib.Numerals.{add-one}
 use native.Mathlib.Omega.{arith}
-use lib.ListN.{length, take, drop, get_or, set, length-append, length-drop, drop_of_length-le}
-use lib.Seq.{take_at, drop_at, drop-drop, length-take-le, take_all, take-length, paste, paste-zero, paste-suc}
+use lib.ListN.{length, take, drop, length-append, length-drop, drop_of_length-le}
+use lib.Seq.{take_at, drop_at, drop-drop, length-take-le, take_all, paste-zero}
 use borrow.Rule.Slice.PartMut.{put_mid, mid_of}
 use Rattle.sheet.specs.Sheet.{pasted, Wrote}
 
@@ -61,12 +60,3 @@ module _ (d : List ℕ) (at : ℕ) (inside : at ≤ length d) where
       let zero-on : 0 + length w ≡ length w = omega arith in
       let is : last ≡ w ++ drop (at + length w) d = e ∙ rw (rest, zero-on, drop-drop) in
       rw (none, is, append-nil, append_assoc)
-
--- a word written byte by byte: so far, the first i of them
-module _ (d : List ℕ) (at : ℕ) (w : List ℕ) (i : ℕ) {out : List ℕ} (is : out ≡ paste d at w i) where
-  pub paste_on : i < length w → at + length w ≤ length d → set out (at + i) (get_or w i 0) ≡ paste d at w (i + 1)
-  paste_on g h = rw (is, paste-suc d at w i 0 (omega arith) g, add-one)
-
-  pub paste_all : i ≤ length w → length w ≤ i → Wrote d at w (at + i) out
-  unfolding pasted
-  paste_all g h = let e : i ≡ length w = omega arith in (rw e, rw e at is ∙ rw take-length)

@@ -3,16 +3,17 @@
 -- line; the writer is `write`. Both share one definition of a line's text.
 use Rattle.std.specs.Prelude.{ℕ, zero, suc, ◌+◌, ◌-◌, ◌*◌, ◌/◌, ◌%◌, ◌≡◌, Bool, true, false, ◌&&◌, ◌||◌}
 use Rattle.std.specs.Prelude.{List, [], ◌∷◌, ◌++◌, map, eqb, ltb, length, get_or, take, drop, Option, Some, None}
+use Rattle.std.specs.Prelude.{Result, Ok, Err}
 use Rattle.std.specs.Int.Bits.{bit_and}
 use Rattle.vocabulary.specs.Choice.{pick}
-use Rattle.vocabulary.specs.Refusal.{Row, ◌when◌, refusal_of}
+use Rattle.vocabulary.specs.Refusal.{number as number_of, Row, ◌when◌, refusal_of}
+use Rattle.vocabulary.specs.declared.Refusal.{Refusal}
 use Rattle.vocabulary.specs.declared.Refusal.TheVariants.{LentLength, OutOfRange, OverFifteen, ShortBuffer}
 use Rattle.vocabulary.specs.Outcome.{Outcome, accepting, refusing, answered}
-use Rattle.vocabulary.specs.Reply.{Reply, decoded, telling as tellingOf}
+use Rattle.vocabulary.specs.Reply.{Reply, decoded, telling as telling_of}
 use Rattle.hex_digits.specs.Hex.{hex, number}
 use Rattle.hd153108.specs.Hd153108.{Chip, reserved_bits, short, outside}
-use Rattle.sheet.specs.declared.Answer.{Answer}
-use Rattle.sheet.specs.declared.Answer.TheVariants.{Done, Refused}
+use Rattle.sheet.specs.declared.Refused.{Refused}
 
 -- ---- The keys, in the sheet's order: the five first lines, o0 to o3, c00 to cff
 
@@ -227,9 +228,17 @@ write a out =
 
 -- ---- What an answer says, with the lent buffer as it is after the call
 
+-- an answer: how much was written, or why it is refused
+abbrev pub Answer : Type 0
+Answer = Result ℕ Refused
+
+-- what a refusal that tells no line says
+abbrev pub refused_for : Refusal → Refused
+refused_for r = record { refusal = r; line = 0 }
+
 abbrev pub outcome : Answer → List ℕ → Outcome (List ℕ)
-outcome (Done count) out = accepting 0 count out
-outcome (Refused n line) out = refusing n line out
+outcome (Ok count) out = accepting 0 count out
+outcome (Err e) out = refusing (number_of e.refusal) e.line out
 
 -- what C gets: the one number, as it is read, and the buffer
 pub record Heard : Type 0 where
@@ -240,7 +249,7 @@ abbrev pub heard : ℕ → List ℕ → Heard
 heard n out = record { reply = decoded n; buffer = out }
 
 abbrev pub telling : Outcome (List ℕ) → Heard
-telling x = record { reply = tellingOf x; buffer = x.left }
+telling x = record { reply = telling_of x; buffer = x.left }
 
 -- the number n tells an answer, whatever the buffer
 abbrev pub Tells : ℕ → Answer → Type 0

@@ -7,21 +7,35 @@
 // other chip's sheet.
 #![tactic(auto)]
 
-ghost use Rattle.sheet.specs.Sheet.{Tells};
+ghost use Rattle.std.specs.Prelude.{◌≡◌};
+ghost use Rattle.sheet.specs.Sheet.{Tells, refused_for};
 
-// What a call on a buffer answers: how much it wrote; or its refusal, and the line that a malformed sheet's tells.
-#[derive(Clone, Copy)]
-pub enum Answer {
-    Done(u16),
-    Refused(u8, u16),
+use vocabulary::Refusal;
+
+// Why a call on a buffer is refused, and the line that it tells: a malformed sheet's bad line, 0 of any other refusal.
+#[derive(Clone, Copy, PartialEq, Eq, Debug)]
+pub struct Refused {
+    pub refusal: Refusal,
+    pub line: u16,
 }
+
+impl From<Refusal> for Refused {
+    ghost from_gives = { λ r e. e ≡ refused_for r };
+
+    fn from(refusal: Refusal) -> Refused {
+        Refused { refusal, line: 0 }
+    }
+}
+
+// What a call on a buffer answers: how much it wrote, or why it is refused.
+pub type Answer = Result<u16, Refused>;
 
 // The number that tells C an answer.
 pub fn told(a: Answer) -> u64
     ensures { Tells result a }
 {
     match a {
-        Answer::Done(count) => reply::packed(0, 0, count, 0),
-        Answer::Refused(n, line) => reply::packed(n, 0, 0, line),
+        Ok(count) => reply::packed(0, 0, count, 0),
+        Err(e) => reply::packed(u8::from(e.refusal), 0, 0, e.line),
     }
 }

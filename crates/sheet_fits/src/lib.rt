@@ -5,31 +5,20 @@
 #![tactic(auto)]
 
 ghost use Rattle.std.specs.Prelude.{◌≡◌};
-ghost use Rattle.sheet.specs.Sheet.{key_at, takes as takesOf, starts};
+ghost use Rattle.sheet.specs.Sheet.{key_at, takes as takes_of, starts};
 
 // Whether a text starts with a word.
+#[tactic(auto, using(crate::proofs::Starts::starts_same))]
 pub fn begins(text: &[u8], word: &[u8]) -> bool
     ensures { result ≡ starts word.now text.now }
 {
-    if text.len() < word.len() {
-        return false;
-    }
-    let mut i: usize = 0;
-    while i < word.len() {
-        if word[i] != text[i] {
-            return false;
-        }
-        i += 1;
-    }
-    true
+    text.starts_with(word)
 }
 
 // Whether a key takes a value: the overlay control has bits 7, 5 and 4 zero.
+#[tactic(auto, using(crate::proofs::Choosy::takes_overlay, crate::proofs::Choosy::takes_other))]
 pub fn takes(k: u16, v: u16) -> bool
-    ensures { result ≡ takesOf (key_at k) v }
+    ensures { result ≡ takes_of (key_at k) v }
 {
-    if k == 3 {
-        return v & 176 == 0;
-    }
-    true
+    k != 3 || v & 176 == 0
 }

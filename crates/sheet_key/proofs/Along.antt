@@ -8,14 +8,12 @@ use lib.ListN.{length, take, drop, replicate, length-drop}
 use lib.Seq.{drop-drop, take_all}
 use borrow.Author.Tests.{ltb-true, ltb-false, eqb-true, eqb-false}
 use Rattle.vocabulary.proofs.Choice.{cases}
-use Rattle.sheet.specs.Sheet.{Line}
 use Rattle.std.specs.Prelude.{Some, None}
 use Rattle.sheet.specs.Sheet.{keys, key_at, front, width, line_text, line_of, Reading, bad, led, read_from}
 use Rattle.sheet.proofs.Texts.{line_length}
 use Rattle.sheet.proofs.Lines.{line_fits, line_below}
 use Rattle.sheet.proofs.Kept.{low_value}
 use Rattle.sheet_key.specs.Reader.{named, leads, after, on_from, Right}
-use Rattle.sheet_key.specs.declared.Found.TheVariants.{At, Bad}
 use Rattle.sheet_key.proofs.Leads.{leads_append, leads_bad, has, stop, skip}
 use Rattle.sheet_key.proofs.Naming.{named_first, other_missing}
 
@@ -96,24 +94,25 @@ module _ (text : List ℕ) (at due : ℕ) {t : List ℕ} {k : ℕ} (rest : t ≡
   some : 0 < length t
   some = rw rest (simp length-drop (omega arith))
 
-  bad_by : (named t due < keys → due ≤ named t due → line_of (key_at (named t due)) t ≡ None) → Right text at due Bad
+  bad_by : (named t due < keys → due ≤ named t due → line_of (key_at (named t due)) t ≡ None) → Right text at due None
   unfolding on_from
   bad_by none = (tt, λ n. rw (sym rest) (bad_line_lem t due n some most none))
 
-  pub low : k < due → Right text at due Bad
+  pub low : k < due → Right text at due None
   low h = bad_by (λ p q. absurd (let z : ⊥ = omega arith in z))
 
-  pub high : keys ≤ k → Right text at due Bad
+  pub high : keys ≤ k → Right text at due None
   high h = bad_by (λ p q. absurd (let z : ⊥ = omega arith in z))
 
-  pub wrong : {x : Line} → x ≡ line_of (key_at k) t → x ≡ None → Right text at due Bad
-  wrong e f = bad_by (λ p q. rw is at (sym e ∙ f))
+  pub wrong : None ≡ line_of (key_at k) t → Right text at due None
+  wrong e = bad_by (λ p q. rw is at (sym e))
 
-  pub found : {x : Line} {v size : ℕ} → due ≤ k → k < keys → x ≡ line_of (key_at k) t → x ≡ Some v
-      → size ≡ length (front (key_at k)) + width (key_at k) + 1 → Right text at due (At k v (at + size))
+  pub found : {v size : ℕ} → due ≤ k → k < keys → Some v ≡ line_of (key_at k) t
+      → size ≡ length (front (key_at k)) + width (key_at k) + 1
+      → Right text at due (Some (record { key = k; value = v; next = at + size }))
   unfolding on_from
-  found {v = v} {size} g h x f s =
-      let e : line_of (key_at k) t ≡ Some v = sym x ∙ f in
+  found {v = v} {size} g h x s =
+      let e : line_of (key_at k) t ≡ Some v = sym x in
       let long : size ≡ length (line_text (key_at k) v) = omega (arith, line_length (key_at k) v) in
       let fits = line_fits (key_at k) t v e in
       let all : length t ≡ length text - at = ap length rest ∙ length-drop at text in (

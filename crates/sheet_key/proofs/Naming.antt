@@ -3,6 +3,7 @@ use Prim.Native.Nat.{ℕ, ◌+◌, ◌*◌, ◌≤◌, ◌<◌}
 use mathlib.Core.Path.{◌≡◌, refl, sym}
 use mathlib.Core.Bool.{true}
 use mathlib.Core.List.{List}
+use native.Mathlib.Omega.{arith}
 use lib.Dec.{ltb}
 use lib.ListN.{get_or}
 use borrow.Author.Tests.{lt-ltb, le-ltb, ltb-true, ltb-false, eq-eqb, ne_eqb}
@@ -26,15 +27,17 @@ module _ (t : List ℕ) (due : ℕ) {a : ℕ} (d : 5 ≤ due) (first : a ≡ get
   unfolding named pick
   names_overlay h e f = rw (le-ltb due 5 d, sym first, eq-eqb a 111 h, e, f)
 
-  module _ (g : a ≡ 111 → ⊥) where
-    pub names_colour : {b c x y : ℕ} → a ≡ 99 → b ≡ hex_value x → x ≡ get_or t 1 0 → c ≡ hex_value y → y ≡ get_or t 2 0
-        → 9 + (b * 16 + c) ≡ named t due
-    unfolding named pick
-    names_colour h e f i j = rw (le-ltb due 5 d, sym first, ne_eqb a 111 g, eq-eqb a 99 h, e, f, i, j)
+  pub names_colour : {b c x y : ℕ} → a ≡ 99 → b ≡ hex_value x → x ≡ get_or t 1 0 → c ≡ hex_value y → y ≡ get_or t 2 0
+      → 9 + (b * 16 + c) ≡ named t due
+  unfolding named pick
+  names_colour h e f i j =
+      rw (le-ltb due 5 d, sym first, ne_eqb a 111 (λ g. omega arith), eq-eqb a 99 h, e, f, i, j)
 
-    pub names_none : (a ≡ 99 → ⊥) → keys ≡ named t due
-    unfolding named pick
-    names_none h = rw (le-ltb due 5 d, sym first, ne_eqb a 111 g, ne_eqb a 99 h)
+  pub names_none : (a ≡ 111 → ⊥) → (a ≡ 99 → ⊥) → keys ≡ named t due
+  unfolding named pick
+  names_none g h = rw (le-ltb due 5 d, sym first, ne_eqb a 111 g, ne_eqb a 99 h)
+
+pub ruleset names = (named_first, names_overlay, names_colour, names_none)
 
 -- An entry's line that stands at the start of a text is the one that its first bytes name.
 module _ (k : ℕ) (t : List ℕ) (v due : ℕ) (d : 5 ≤ due) where

@@ -4,51 +4,49 @@
 // line is read by the key that it names, so each line is read once. Not modelled: as in sheet_reader.
 #![tactic(auto)]
 
-ghost use Rattle.std.specs.Prelude.{◌≡◌, ◌≤◌, ◌<◌, length};
+ghost use Rattle.std.specs.Prelude.{◌≡◌, ◌≤◌, ◌<◌, length, IfSome};
 ghost use Rattle.sheet.specs.Sheet.{keys};
-ghost use Rattle.sheet_key.specs.Reader.{named, Right};
+ghost use Rattle.sheet_key.specs.Reader.{named, number_of, Right};
 
-
-// What a line says: its key, its value and the place behind it; or it is bad.
+// What a line says: its key, its value and the place behind it.
 #[derive(Clone, Copy)]
-pub enum Found {
-    At(u16, u16, usize),
-    Bad,
+pub struct Found {
+    pub key: u16,
+    pub value: u16,
+    pub next: usize,
 }
 
-// The key that a line names, where `due` is the least that may come; 265 for none.
-fn key_of(t: &[u8], due: u16) -> u16
-    ensures { result ≡ named t.now due }
+// The key that a line names, where `due` is the least that may come.
+#[tactic(auto, using(crate::proofs::Naming::names))]
+fn key_of(t: &[u8], due: u16) -> Option<u16>
+    ensures named { number_of result ≡ named t.now due }
+    ensures one { IfSome result (λ k. k < keys) }
 {
     if due < 5 {
-        return due;
+        return Some(due);
     }
-    let a = hex_digits::byte(t, 0);
     let b = hex_digits::nibble(hex_digits::byte(t, 1));
-    if a == b'o' {
-        return 5 + b;
+    match hex_digits::byte(t, 0) {
+        b'o' => Some(5 + b),
+        b'c' => Some(9 + (b * 16 + hex_digits::nibble(hex_digits::byte(t, 2)))),
+        _ => None,
     }
-    if a == b'c' {
-        let d = hex_digits::nibble(hex_digits::byte(t, 2));
-        return 9 + (b * 16 + d);
-    }
-    265
 }
 
-// The line at a place, where `due` is the least key that may come.
-pub fn line_at(text: &[u8], at: usize, due: u16) -> Found
+// The line at a place, where `due` is the least key that may come; none where it is bad.
+pub fn line_at(text: &[u8], at: usize, due: u16) -> Option<Found>
     requires { (at < length text.now) × (due ≤ keys) }
     ensures { Right text.now at due result }
 {
-    let k = key_of(&text[at..], due);
-    if k < due {
-        return Found::Bad;
+    let line = &text[at..];
+    let key = key_of(line, due)?;
+    if key < due {
+        return None;
     }
-    if 265 <= k {
-        return Found::Bad;
-    }
-    let Some(v) = sheet_line::line_of(&text[at..], k) else {
-        return Found::Bad;
-    };
-    Found::At(k, v, at + sheet_line::line_len(k))
+    let value = sheet_line::line_of(line, key)?;
+    Some(Found {
+        key,
+        value,
+        next: at + sheet_line::line_len(key),
+    })
 }

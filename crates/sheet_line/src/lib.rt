@@ -8,8 +8,8 @@
 ghost use Rattle.std.specs.Prelude.{◌≡◌, ◌+◌, ◌<◌, length};
 ghost use Rattle.sheet.specs.Sheet.{key_at, front, width, line_of};
 
-
 // How many bytes stand before a key's digits.
+#[tactic(auto, using(crate::proofs::Lines::fronts))]
 fn front_len(k: u16) -> usize
     ensures { (result ≡ length (front (key_at k))) × (result < 12) }
 {
@@ -19,21 +19,21 @@ fn front_len(k: u16) -> usize
         2 => 10,
         3 => 8,
         4 => 7,
-        _ => { if k < 9 { 3 } else { 4 } }
+        5..=8 => 3,
+        _ => 4,
     }
 }
 
 // How many digits a key has.
+#[tactic(auto, using(crate::proofs::Lines::widths))]
 fn digit_count(k: u16) -> usize
     ensures { (result ≡ width (key_at k)) × (result < 4) }
 {
-    if k < 1 {
-        return 0;
+    match k {
+        0 => 0,
+        1..=4 => 2,
+        _ => 3,
     }
-    if k < 5 {
-        return 2;
-    }
-    3
 }
 
 // How many bytes a key's line has.
@@ -44,18 +44,15 @@ pub fn line_len(k: u16) -> usize
 }
 
 // A key's line at the start of a text.
+#[tactic(auto, using(crate::proofs::Lines::lines))]
 pub fn line_of(t: &[u8], k: u16) -> Option<u16>
     ensures { result ≡ line_of (key_at k) t.now }
 {
     let v = hex_number::spelt_word(t, front_len(k), digit_count(k));
-    let l = sheet_text::written(k, v);
-    let bytes = l.bytes;
-    let n = l.len;
-    if !sheet_fits::begins(t, &bytes[..n]) {
-        return None;
+    let line = sheet_text::written(k, v);
+    if sheet_fits::begins(t, line.as_slice()) && sheet_fits::takes(k, v) {
+        Some(v)
+    } else {
+        None
     }
-    if sheet_fits::takes(k, v) {
-        return Some(v);
-    }
-    None
 }

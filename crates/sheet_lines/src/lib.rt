@@ -16,12 +16,9 @@ fn put(out: &mut [u8], at: usize, word: &[u8]) -> usize
     requires { at + length word.now ≤ length out.old }
     ensures { Wrote out.old at word.now result out.new }
 {
-    let mut i: usize = 0;
-    while i < word.len() {
-        out[at + i] = word[i];
-        i += 1;
-    }
-    at + i
+    let end = at + word.len();
+    out[at..end].copy_from_slice(word);
+    end
 }
 
 // A key's line into a buffer from a place on.
@@ -29,23 +26,20 @@ fn put_line(out: &mut [u8], at: usize, k: u16, v: u16) -> usize
     requires { at + length (line_text (key_at k) v) ≤ length out.old }
     ensures { Wrote out.old at (line_text (key_at k) v) result out.new }
 {
-    let l = sheet_text::written(k, v);
-    let bytes = l.bytes;
-    let n = l.len;
-    put(out, at, &bytes[..n])
+    let line = sheet_text::written(k, v);
+    put(out, at, line.as_slice())
 }
 
 // All lines, in the order of their keys.
-pub fn write_lines<'a>(s: State, colours: &'a [u8], overlays: &'a [u8], out: &mut [u8])
+#[tactic(auto, using(crate::proofs::Turn::last_line))]
+pub fn write_lines(s: State, colours: &[u8], overlays: &[u8], out: &mut [u8])
     requires { Writable (chip s colours.now overlays.now) × (2134 ≤ length out.old) }
     ensures { out.new
         ≡ pasted out.old 0 (text_of (chip s colours.now overlays.now)) }
 {
-    let mut k: u16 = 0;
     let mut at: usize = 0;
-    while k < 265 {
+    for k in 0..265 {
         let v = sheet_values::value(s, colours, overlays, k);
         at = put_line(out, at, k, v);
-        k += 1;
     }
 }

@@ -8,15 +8,9 @@ ghost use Rattle.std.specs.Prelude.{◌≡◌};
 ghost use Rattle.sheet.specs.Sheet.{over_fifteen_in};
 
 // Whether a table has a byte over 15.
+#[tactic(auto, using(crate::proofs::Over::over_any))]
 pub fn over_fifteen(table: &[u8]) -> bool
     ensures { result ≡ over_fifteen_in table.now }
 {
-    let mut i: usize = 0;
-    while i < table.len() {
-        if 15 < table[i] {
-            return true;
-        }
-        i += 1;
-    }
-    false
+    table.iter().any(|x| 15 < *x)
 }

@@ -4,86 +4,74 @@
 // share it: the reader compares a text with the line that it would have to be. Not modelled: as in sheet.
 #![tactic(auto)]
 
-ghost use Rattle.std.specs.Prelude.{◌≡◌, ◌≤◌, ◌<◌, length, take};
+ghost use Rattle.std.specs.Prelude.{◌≡◌, ◌≤◌, ◌<◌};
 ghost use Rattle.sheet.specs.Sheet.{key_at, line_text};
 
-// A line's bytes, of which the first `len` count.
-#[derive(Clone, Copy)]
-pub struct Text {
-    pub bytes: [u8; 13],
-    pub len: usize,
-}
+use bounded_text::Text;
 
 // The line of one of the five first keys.
-fn first_line(k: u16, v: u16) -> Text
+// Stays: a key is its number here and above: lines are counted and stored by it, and 260 of the 265 are entries.
+#[tactic(auto, using(crate::proofs::Texts::first_lines))]
+fn first_line(k: u16, v: u16) -> Text<13>
     requires { k < 5 }
-    ensures { (result.len ≤ length result.bytes) × (take result.len result.bytes ≡ line_text (key_at k) v) }
+    ensures { result ≡ line_text (key_at k) v }
 {
     let h = hex_digits::digit(v / 16);
     let l = hex_digits::digit(v);
     match k {
-        0 => Text {
-            bytes: [
-                b'c', b'h', b'i', b'p', b'=', b'1', b'5', b'3', b'1', b'0', b'8', b'\n', 0,
-            ],
-            len: 12,
-        },
-        1 => Text {
-            bytes: [
+        0 => Text::first(*b"chip=153108\n\0", 12),
+        1 => Text::first(
+            [
                 b'r', b'e', b'a', b'd', b'm', b'a', b's', b'k', b'=', h, l, b'\n', 0,
             ],
-            len: 12,
-        },
-        2 => Text {
-            bytes: [
+            12,
+        ),
+        2 => Text::first(
+            [
                 b'b', b'l', b'i', b'n', b'k', b'm', b'a', b's', b'k', b'=', h, l, b'\n',
             ],
-            len: 13,
-        },
-        3 => Text {
-            bytes: [
+            13,
+        ),
+        3 => Text::first(
+            [
                 b'o', b'v', b'e', b'r', b'l', b'a', b'y', b'=', h, l, b'\n', 0, 0,
             ],
-            len: 11,
-        },
-        _ => Text {
-            bytes: [
+            11,
+        ),
+        _ => Text::first(
+            [
                 b't', b'i', b'm', b'i', b'n', b'g', b'=', h, l, b'\n', 0, 0, 0,
             ],
-            len: 10,
-        },
+            10,
+        ),
     }
 }
 
 // The line of an entry.
-fn entry_line(k: u16, v: u16) -> Text
+#[tactic(auto, using(crate::proofs::Texts::entry_lines))]
+fn entry_line(k: u16, v: u16) -> Text<13>
     requires { 5 ≤ k }
-    ensures { (result.len ≤ length result.bytes) × (take result.len result.bytes ≡ line_text (key_at k) v) }
+    ensures { result ≡ line_text (key_at k) v }
 {
     let r = hex_digits::digit(v / 16 / 16);
     let g = hex_digits::digit(v / 16);
     let b = hex_digits::digit(v);
     if k < 9 {
         let e = hex_digits::digit(k - 5);
-        return Text {
-            bytes: [b'o', e, b'=', r, g, b, b'\n', 0, 0, 0, 0, 0, 0],
-            len: 7,
-        };
+        return Text::first([b'o', e, b'=', r, g, b, b'\n', 0, 0, 0, 0, 0, 0], 7);
     }
     let d = hex_digits::digit((k - 9) / 16);
     let e = hex_digits::digit(k - 9);
-    Text {
-        bytes: [b'c', d, e, b'=', r, g, b, b'\n', 0, 0, 0, 0, 0],
-        len: 8,
-    }
+    Text::first([b'c', d, e, b'=', r, g, b, b'\n', 0, 0, 0, 0, 0], 8)
 }
 
 // The line of a key with a value, its LF too.
-pub fn written(k: u16, v: u16) -> Text
-    ensures { (result.len ≤ length result.bytes) × (take result.len result.bytes ≡ line_text (key_at k) v) }
+pub fn written(k: u16, v: u16) -> Text<13>
+    ensures { result ≡ line_text (key_at k) v }
 {
     if k < 5 {
-        return first_line(k, v);
+        first_line(k, v)
+    } else {
+        entry_line(k, v)
     }
-    entry_line(k, v)
 }

@@ -12,36 +12,29 @@ ghost use Rattle.sheet_written.specs.Writer.{Writable};
 use hd153108::State;
 
 // An entry's colour: its three bytes as hex digits.
+#[tactic(auto, using(sheet_written::proofs::Values::low_at, sheet_written::proofs::Values::colour_at_lem))]
 fn colour(table: &[u8], entry: usize) -> u16
     requires { (3 * entry + 3 ≤ length table.now) × (over_fifteen_in table.now ≡ false) }
     ensures { result ≡ get_or (colours_in table.now) entry 0 }
 {
     let at = 3 * entry;
-    let r = table[at] as u16;
-    let g = table[at + 1] as u16;
-    let b = table[at + 2] as u16;
-    (r * 16 + g) * 16 + b
+    (table[at] as u16 * 16 + table[at + 1] as u16) * 16 + table[at + 2] as u16
 }
 
 // A key's value.
+// Stays: state and tables are the documented parameters of write_sheet, which hands them on unchanged.
 #[tactic(auto, unfolding(sheet::specs::Sheet::values))]
-pub fn value<'a>(s: State, colours: &'a [u8], overlays: &'a [u8], k: u16) -> u16
+pub fn value(s: State, colours: &[u8], overlays: &[u8], k: u16) -> u16
     requires { (k < keys) × Writable (chip s colours.now overlays.now) }
     ensures { result ≡ get_or (values (chip s colours.now overlays.now)) k 0 }
 {
-    let clock = s.clock;
     match k {
         0 => 0,
         1 => s.readmask as u16,
         2 => s.blinkmask as u16,
         3 => s.control as u16,
-        4 => clock.timing as u16,
-        _ => {
-            if k < 9 {
-                colour(overlays, (k - 5) as usize)
-            } else {
-                colour(colours, (k - 9) as usize)
-            }
-        }
+        4 => s.clock.timing as u16,
+        5..=8 => colour(overlays, (k - 5) as usize),
+        _ => colour(colours, (k - 9) as usize),
     }
 }

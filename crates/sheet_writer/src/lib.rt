@@ -12,25 +12,21 @@ ghost use Rattle.sheet.specs.Sheet.{write, outcome};
 
 use hd153108::State;
 use sheet::Answer;
+use vocabulary::Refusal;
 
 // A sheet of any state and tables into any buffer.
-pub fn write_sheet<'a>(s: State, colours: &'a [u8], overlays: &'a [u8], out: &mut [u8]) -> Answer
+#[tactic(auto, using(sheet_written::proofs::Ends::ends))]
+pub fn write_sheet(s: State, colours: &[u8], overlays: &[u8], out: &mut [u8]) -> Answer
     ensures { outcome result out.new
         ≡ write (chip s colours.now overlays.now) out.old }
 {
-    let refusal = hd153108_range::standing(s, colours.len(), overlays.len());
-    if refusal != 0 {
-        return Answer::Refused(refusal, 0);
-    }
-    if sheet_over::over_fifteen(colours) {
-        return Answer::Refused(2, 0);
-    }
-    if sheet_over::over_fifteen(overlays) {
-        return Answer::Refused(2, 0);
+    hd153108_range::standing(s, colours.len(), overlays.len())?;
+    if sheet_over::over_fifteen(colours) || sheet_over::over_fifteen(overlays) {
+        return Err(Refusal::OverFifteen.into());
     }
     if out.len() < 2134 {
-        return Answer::Refused(7, 0);
+        return Err(Refusal::ShortBuffer.into());
     }
     sheet_lines::write_lines(s, colours, overlays, out);
-    Answer::Done(2134)
+    Ok(2134)
 }

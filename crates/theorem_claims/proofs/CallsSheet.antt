@@ -1,24 +1,28 @@
 -- The expander, the sheet writer and sheet-to-calls: each judged by its table, and each determined by its promise.
 -- Assumes nothing.
-use Prim.Native.Nat.{ℕ, zero, suc}
+use Prim.Native.Nat.{ℕ, zero, suc, ◌-◌}
 use mathlib.Core.Path.{◌≡◌, refl, sym, ap, ◌∙◌}
-use mathlib.Core.List.{List}
+use mathlib.Core.List.{List, [], ◌∷◌}
+use lib.ListN.{get_or}
 use Rattle.vocabulary.specs.Outcome.{Outcome}
-use Rattle.vocabulary.specs.Reply.{decoded, telling as tellingOf}
+use Rattle.vocabulary.specs.Reply.{decoded, telling as telling_of}
 use Rattle.vocabulary.proofs.Reply.{decoded_once}
+use Rattle.vocabulary.specs.Refusal.{number}
+use Rattle.vocabulary.specs.declared.Refusal.{Refusal}
+use Rattle.vocabulary.specs.declared.Refusal.TheVariants.{LentLength, OverFifteen, NoAccess, NoIndex, ReadMode}
+use Rattle.vocabulary.specs.declared.Refusal.TheVariants.{StillWaiting, ShortBuffer, Malformed, OutOfRange}
+use Rattle.vocabulary.proofs.Refusals.{number_positive}
 use Rattle.expand.specs.declared.Expanded.{Expanded}
 use Rattle.expand.specs.declared.Expanded.TheVariants.{Ten, Refused as ExpandRefused}
 use Rattle.expand.specs.Expand.{refusals, expansion, meaning}
 use Rattle.hd153108.specs.Hd153108.{Chip}
-use Rattle.sheet.specs.declared.Answer.{Answer}
-use Rattle.sheet.specs.declared.Answer.TheVariants.{Done, Refused}
-use Rattle.sheet.specs.Sheet.{sheet_of, bad_line, write_refusals, write, outcome, Heard}
+use Rattle.std.specs.Prelude.{Ok, Err}
+use Rattle.sheet.specs.Sheet.{sheet_of, bad_line, write_refusals, write, Answer, outcome, Heard}
 use Rattle.calls.specs.Calls.{call_refusals, sheet_to_calls}
 use Rattle.vocabulary.specs.Judged.{Judged}
-use Rattle.theorem_claims.specs.Determined.{Determined, Numbered, Fills, Tells, Counts}
+use Rattle.theorem_claims.specs.Determined.{Determined, Numbered, Fills, Tells}
 use Rattle.vocabulary.proofs.Judged.{judged}
-use Rattle.theorem_claims.proofs.Counts.{text_counts, calls_count}
-use Rattle.theorem_claims.proofs.Determined.{determined, determined_of, number_determined}
+use Rattle.theorem_claims.proofs.Determined.{determined, number_determined}
 
 -- ---- judged
 pub expansion_judged : (w v : ℕ) → Judged (refusals w v) 0 tt (expansion w v)
@@ -50,13 +54,38 @@ module _ (w v : ℕ) where
   expand_determined =
       determined meaning (λ (o : Outcome Unit). expanded_of o.refusal o.value) expanded_back _
 
-  pub c_expand_determined : Determined decoded (tellingOf (expansion w v))
+  pub c_expand_determined : Determined decoded (telling_of (expansion w v))
   c_expand_determined = number_determined _
 
 -- ---- determined: an answer with the buffer, and the number that C gets with it
+
+-- no answer refuses with the number 0
+pub numbered : (a : Answer) → Numbered a
+numbered (Ok count) = tt
+numbered (Err e) = number_positive e.refusal
+
+-- the refusal that has a number
+refusal_for : ℕ → Refusal
+refusal_for n =
+    get_or
+    (LentLength ∷ OverFifteen ∷ NoAccess ∷ NoIndex ∷ ReadMode ∷ StillWaiting ∷ ShortBuffer ∷ Malformed ∷ OutOfRange ∷ [])
+    (n - 1) LentLength
+
 answer_of : ℕ → ℕ → ℕ → Answer
-answer_of zero count line = Done count
-answer_of (suc n) count line = Refused (suc n) line
+answer_of zero count line = Ok count
+answer_of (suc n) count line = Err (record { refusal = refusal_for (suc n); line = line })
+
+refused_back : (r : Refusal) (line : ℕ) → answer_of (number r) 0 line ≡ Err (record { refusal = r; line = line })
+unfolding answer_of refusal_for
+refused_back LentLength line = refl
+refused_back OverFifteen line = refl
+refused_back NoAccess line = refl
+refused_back NoIndex line = refl
+refused_back ReadMode line = refl
+refused_back StillWaiting line = refl
+refused_back ShortBuffer line = refl
+refused_back Malformed line = refl
+refused_back OutOfRange line = refl
 
 abbrev Saw : Type 0
 Saw = Answer × List ℕ
@@ -64,22 +93,13 @@ Saw = Answer × List ℕ
 saw_of : Outcome (List ℕ) → Saw
 saw_of o = (answer_of o.refusal o.count o.line, o.left)
 
-saw_back : (a : Answer) (out : List ℕ) → Numbered a → saw_of (outcome a out) ≡ (a, out)
+saw_back : (x : Saw) → saw_of (outcome x.0 x.1) ≡ x
 unfolding saw_of answer_of
-saw_back (Done count) out h = refl
-saw_back (Refused zero line) out h = absurd (h refl)
-saw_back (Refused (suc n) line) out h = refl
+saw_back (Ok count, out) = refl
+saw_back (Err e, out) = rw (refused_back e.refusal e.line) refl
 
--- the two calls alike: an accepted one has a count other than 0, so that its answer is no `Refused(0)`
-numbered : (d : Outcome (List ℕ)) → Counts d → (a : Answer) (out : List ℕ) → outcome a out ≡ d → Numbered a
-numbered d h (Done count) out e = tt
-numbered d h (Refused n line) out e =
-    λ z. h (ap (λ (o : Outcome (List ℕ)). o.refusal) (sym e) ∙ z) (ap (λ (o : Outcome (List ℕ)). o.count) (sym e))
-
-fills : (d : Outcome (List ℕ)) → Counts d → Fills d
-fills d h a b ha hb e f =
-    determined_of {A = Answer × List ℕ} (λ x. outcome x.0 x.1) saw_of (λ x. Numbered x.0)
-    (λ x n. saw_back x.0 x.1 n) d a b (numbered d h a.0 a.1 e) (numbered d h b.0 b.1 f) e f
+fills : (d : Outcome (List ℕ)) → Fills d
+fills d = determined {A = Saw} (λ x. outcome x.0 x.1) saw_of saw_back d
 
 both : {A B : Type 0} {a c : A} {b d : B} → a ≡ c → b ≡ d → ◌≡◌ {A = A × B} (a, b) (c, d)
 both e f = cc
@@ -91,14 +111,14 @@ tells d a b ha hb e f =
 
 module _ (a : Chip) (out : List ℕ) where
   pub write_determined : Fills (write a out)
-  write_determined = fills _ (text_counts a out)
+  write_determined = fills _
 
   pub c_write_determined : Tells (write a out)
   c_write_determined = tells _
 
 module _ (text out : List ℕ) where
   pub calls_determined : Fills (sheet_to_calls text out)
-  calls_determined = fills _ (calls_count text out)
+  calls_determined = fills _
 
   pub c_calls_determined : Tells (sheet_to_calls text out)
   c_calls_determined = tells _

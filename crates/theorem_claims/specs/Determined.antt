@@ -1,11 +1,10 @@
 -- "two outcomes allowed by it are equal": one shape for every call. A is all that a caller sees afterwards, the answer
 -- and each lent slice; `says` makes of it what the call's promise speaks of, and d is the promised outcome.
-use Rattle.std.specs.Prelude.{ℕ, ◌<◌, ◌≡◌, List}
+use Rattle.std.specs.Prelude.{ℕ, ◌<◌, ◌≡◌, List, Ok, Err}
+use Rattle.vocabulary.specs.Refusal.{number}
 use Rattle.vocabulary.specs.Outcome.{Outcome}
 use Rattle.vocabulary.specs.declared.Shown.{Shown}
-use Rattle.sheet.specs.declared.Answer.{Answer}
-use Rattle.sheet.specs.declared.Answer.TheVariants.{Done, Refused}
-use Rattle.sheet.specs.Sheet.{outcome, heard, telling}
+use Rattle.sheet.specs.Sheet.{Answer, outcome, heard, telling}
 
 -- whatever meets the promise is one thing; Held is what the answer's type holds
 abbrev pub DeterminedOf : {A C : Type 0} → (A → Type 0) → (A → C) → C → Type 0
@@ -21,10 +20,10 @@ pub record Bytes (a : Shown) : Type 0 where
   pub green : a.green < 256
   pub blue : a.blue < 256
 
--- a refusal that the enum holds has a number; `Refused(0)` would mean what `Done(0)` means
+-- a refusal of an answer has a number; 0 would mean what `Ok(0)` means
 abbrev pub Numbered : Answer → Type 0
-Numbered (Done count) = Unit
-Numbered (Refused n line) = n ≡ 0 → ⊥
+Numbered (Ok count) = Unit
+Numbered (Err e) = number e.refusal ≡ 0 → ⊥
 
 -- an answer with its buffer, and the number that C gets with it: what each says of the buffer's calls
 abbrev pub Fills : Outcome (List ℕ) → Type 0

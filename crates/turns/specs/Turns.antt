@@ -2,9 +2,8 @@
 use Rattle.std.specs.Prelude.{ℕ, ◌/◌, ◌%◌, ◌≡◌, List}
 use Rattle.vocabulary.specs.Outcome.{Outcome}
 use Rattle.expand.specs.Expand.{expansion}
-use Rattle.answers.specs.declared.Text.{Text}
 use Rattle.answers.specs.Answers.{told, ok_text, bad_text, value_text, look_text, moved_text, sync_text, colour_text}
-use Rattle.answers.specs.Answers.{ten_text, Says}
+use Rattle.answers.specs.Answers.{ten_text}
 
 -- the answer's bytes, and what is left: the chip, or the whole board, afterwards
 pub record Turn (C : Type 0) : Type 0 where
@@ -43,11 +42,6 @@ poured o =
 pub record Took {C : Type 0} (Said : List ℕ → Type 0) (left : C) (t : Turn C) : Type 0 where
   pub says : Said t.text
   pub leaves : left ≡ t.left
-
--- an answer that was told: its refusal or an accepted call's line, with the state that it hands back
-pub record Told {S : Type 0} (text : Text) (state : S) (refusal : ℕ) (line : List ℕ) (given : S) : Type 0 where
-  pub says : Says text (told refusal line)
-  pub keeps : state ≡ given
 
 -- ---- The expander
 abbrev pub expand_text : ℕ → ℕ → List ℕ

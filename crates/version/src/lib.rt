@@ -24,7 +24,7 @@ pub struct Text {
 pub extern "C" fn zk_version() -> u32
     ensures { result ≡ packed }
 {
-    65536 * MAJOR as u32 + 256 * MINOR as u32 + PATCH as u32
+    65536 * u32::from(MAJOR) + 256 * u32::from(MINOR) + u32::from(PATCH)
 }
 
 #[unsafe(no_mangle)]

@@ -1,20 +1,17 @@
--- By the laws of a text, byte by byte.
-use Rattle.std.proofs.Common.{refl, sym, ap, ◌∙◌, rules, arith}
-use Rattle.hold.specs.Hold.{holding, holding_all}
-use Rattle.hold.proofs.Texts.{before_on, holding_on}
+-- All the bytes before the first LF were passed.
+use Rattle.std.proofs.Common.{◌≡◌, ap, ◌∙◌, length, take}
+use Rattle.std.specs.Option.{unwrap_or}
+use lib.Seq.{take_all}
+use Rattle.hold.specs.Hold.{before, hold, holding_all}
+use Rattle.hold.proofs.Texts.{before_is}
 use Rattle.hold.proofs.scan.Goals as goal
 
-pub loop-i-init : goal.loop-i-init
-unfolding holding_all
-loop-i-init c = (search rules, refl, omega arith, refl)
-
-pub loop-i-preserved : goal.loop-i-preserved
-loop-i-preserved c =
+pub returns : goal.returns
+returns c =
     let t = c.args.text.now in
-    let l = c.loop-i in
-    let more = before_on t l.i (search rules) (λ e. omega arith) in (
-      search rules,
-      search rules,
-      omega (arith, more, l.invariant.2),
-      c.hold_byte-n.ensures ∙ ap (holding _) l.invariant.3 ∙ sym (holding_on t l.i (search rules) _),
-    )
+    let n = c.unwrap_or-before.result in
+    let at : n ≡ before t =
+    c.unwrap_or-before.ensures ∙ ap (λ o. unwrap_or o (length t)) c.first_lf.ensures ∙ before_is t in
+    let all : take c.loop-b.b-index (take n t) ≡ take (before t) t =
+    take_all c.loop-b.b-index (take n t) c.loop-b-test.false ∙ ap (λ k. take k t) at in
+    (at, c.loop-b.invariant ∙ ap (λ l. holding_all l (hold c.args.hold.now c.args.len)) all)

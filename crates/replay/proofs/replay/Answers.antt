@@ -1,34 +1,42 @@
 -- A turn takes what it was given up to a line's end, and answers it; at the end what waits is printed.
-use Rattle.std.proofs.Common.{ap, refl, arith}
+use Rattle.std.proofs.Common.{◌≡◌, ◌-◌, ◌^◌, true, false, rules, arith}
 use Rattle.std.proofs.KnownBytes.{Appends-nil}
-use Rattle.input.specs.declared.Input.{Input}
-use Rattle.replay.proofs.Stages.{starts, ends, turn_taken, flushed}
+use Rattle.printer.specs.Held.{held}
+use Rattle.replay.specs.Replay.{desk_of}
+use Rattle.replay.proofs.Stages.{starts, goes_on_at, ends, none_left, ended, on_ok, too_many}
 use Rattle.replay.proofs.replay.Goals as goal
 
-pub loop-s-init : goal.loop-s-init
-loop-s-init g c = record {
-  long = c.told-chunk;
-  inside = λ h. omega (arith, h, c.told-chunk);
-  stage = λ log h comes few. starts log _ _ _ _ _ comes few (Appends-nil _);
-}
+pub loop-turn-init : goal.loop-turn-init
+loop-turn-init g c = λ log comes. starts log _ _ _ _ comes (Appends-nil _)
 
-pub loop-s-preserved : goal.loop-s-preserved
-loop-s-preserved g c =
-    let inv = c.loop-s.invariant in
-    let next = c.in_ok-i.ensures in
-    let turn = c.in_ok-s.ensures in
-    record {
-      long = omega (arith, c.next.auto.chunk, inv.long);
-      inside = λ h. omega (arith, next.inside (inv.inside h), ap (λ (i : Input). i.got) turn.input);
-      stage = λ log h comes few.
-          let fits = next.inside (inv.inside h) in
-          turn_taken log _ _ c.loop-s.s.len c.loop-s.s.input c.in_ok-i.i c.in_ok-s.s.input c.rest.result.now
-          c.loop-s.chunk c.next.new.chunk _ _ _ _ _ _ _ _
-          c.loop-s-test.true refl fits (c.rest.ensures.part fits) turn.input (next.brings (omega (arith, inv.long)))
-          next.kept turn.says turn.leaves (inv.stage log h comes few);
-    }
+pub loop-turn-preserved : goal.loop-turn-preserved
+loop-turn-preserved g c = λ log comes.
+    let more : c.in_ok-more.more ≡ true = search rules in
+    let next = c.in_ok-more.ensures in
+    let turn = c.in_ok-taken.ensures in
+    goes_on_at log (desk_of c.args.s.now) (held (g.W.Write.contents c.args.to.now) c.args.out.now)
+    (g.R.Read.remaining c.loop-turn.from) (g.R.Read.remaining c.next.new.from)
+    (held (g.W.Write.contents c.loop-turn.to) c.loop-turn.out)
+    (held (g.W.Write.contents c.next.new.to) c.next.new.out)
+    (held (g.W.Write.contents c.turn.new.to) c.turn.new.out) c.loop-turn.input c.next.new.self
+    (desk_of c.loop-turn.s) c.loop-turn._turn next.kept next.keeps c.rest.result.now c.take.new.self
+    c.in_ok-taken.taken (desk_of c.turn.new.s) c.rest.ensures turn.taken c.take.ensures (next.ok.more.0 more)
+    turn.says turn.leaves (c.loop-turn.invariant log comes)
+
+pub returns-then-not-more : goal.returns-then-not-more
+returns-then-not-more g c = λ log comes few.
+    let more : c.in_ok-more.more ≡ false = search rules in
+    let next = c.in_ok-more.ensures in
+    on_ok c.end.result
+    (ends log (desk_of c.args.s.now) (held (g.W.Write.contents c.args.to.now) c.args.out.now)
+    (g.R.Read.remaining c.loop-turn.from) (g.R.Read.remaining c.next.new.from)
+    (held (g.W.Write.contents c.loop-turn.to) c.loop-turn.out)
+    (held (g.W.Write.contents c.next.new.to) c.next.new.out) (g.W.Write.contents c.end.new.to) c.loop-turn.input
+    c.next.new.self (desk_of c.loop-turn.s) c.loop-turn._turn next.kept next.keeps
+    (none_left c.next.new.self c.in_ok-more.more more next.ok.more.1)
+    (ended c.in_ok-more.more (g.R.Read.remaining c.next.new.from) more (next.ends (omega arith)))
+    (c.loop-turn.invariant log comes)) c.end.ensures
 
 pub returns : goal.returns
-returns g c = λ log h comes few.
-    let all = ends log _ _ _ _ _ _ (omega (arith, c.loop-s-test.false)) (c.loop-s.invariant.stage log h comes few) in
-    flushed c.flush.result _ _ _ _ _ all c.flush.ensures.printed
+returns g c = λ log comes few.
+    absurd (too_many (2 ^ 64 - 1) (c.loop-turn.invariant log comes) few (omega (arith, c.loop-turn-test.false)))

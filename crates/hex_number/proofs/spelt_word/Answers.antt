@@ -1,0 +1,7 @@
+-- So few digits fit (`number_fits`).
+use Rattle.std.proofs.Common.{arith}
+use Rattle.hex_digits.proofs.Number.{number_fits}
+use Rattle.hex_number.proofs.spelt_word.Goals as goal
+
+pub overflow_cast-result : goal.overflow_cast-result
+overflow_cast-result c = record { fits = number_fits 4 _ _ _ c.spelt.ensures (omega arith) }
