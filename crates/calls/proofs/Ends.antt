@@ -26,10 +26,10 @@ abbrev before : List Refusal
 before = LentLength ∷ OutOfRange ∷ NoAccess ∷ NoIndex ∷ ReadMode ∷ StillWaiting ∷ OverFifteen ∷ []
 
 -- a bad sheet is refusal 8, with its line
-pub refused_bad : (t out : List ℕ) (n : ℕ) → reading_of (Err n) ≡ sheet_of t
+pub malformed_eight : (t out : List ℕ) (n : ℕ) → reading_of (Err n) ≡ sheet_of t
     → outcome (Err (record { refusal = Malformed; line = n })) out ≡ sheet_to_calls t out
 unfolding sheet_to_calls
-refused_bad t out n e =
+malformed_eight t out n e =
     rw (sym e)
     (stops (call_refusals (bad n) out) n out _ before Malformed 7 _ refl refl
     (refl, (refl, (refl, (refl, (refl, (refl, (refl, tt))))))) refl)

@@ -9,7 +9,7 @@ use Rattle.vocabulary.specs.Outcome.{refusing}
 use Rattle.std.specs.Prelude.{Some, None}
 use Rattle.sheet.specs.Sheet.{Line, bad, sheet_of}
 use Rattle.calls.specs.Calls.{call, colour_calls, entry_calls, table_calls, sheet_to_calls}
-use Rattle.calls.proofs.Ends.{refused_bad}
+use Rattle.calls.proofs.Ends.{malformed_eight}
 
 -- entries that are missing are not touched: they have no call
 pub missing_untouched : (select entry n : ℕ) (follows : Bool)
@@ -43,4 +43,4 @@ no_address_between select entry v l = refl
 
 -- a malformed sheet is refusal 8, whatever the buffer, an empty one too: 7 never comes first
 pub eight_first : (t out : List ℕ) (n : ℕ) → sheet_of t ≡ bad n → sheet_to_calls t out ≡ refusing 8 n out
-eight_first t out n e = sym (refused_bad t out n (sym e))
+eight_first t out n e = sym (malformed_eight t out n (sym e))

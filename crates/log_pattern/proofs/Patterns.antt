@@ -1,13 +1,13 @@
 -- Lines and patterns, byte by byte. Assumes nothing.
-use Prim.Native.Nat.{ℕ, suc}
+use Prim.Native.Nat.{ℕ, suc, ◌≤◌}
 use mathlib.Core.Path.{◌≡◌, refl, sym, ap, ◌∙◌}
 use mathlib.Core.Bool.{Bool, true, false, ◌&&◌}
 use mathlib.Core.List.{List, [], ◌∷◌}
 use native.Mathlib.Omega.{arith}
 use lib.ListN.{length}
 use Rattle.std.specs.List.{list_all, zip}
-use lib.Dec.{eqb}
-use borrow.Author.Tests.{eq-eqb, ne_eqb}
+use lib.Dec.{eqb, leb}
+use borrow.Author.Tests.{le-leb, lt-leb, eq-eqb, ne_eqb}
 use Rattle.vocabulary.proofs.Choice.{picks_first, picks_second}
 use Rattle.log_pattern.specs.Pattern.{is_digit, stands, fits}
 
@@ -40,3 +40,8 @@ module _ (p b : ℕ) where
   pub stands_itself : (p ≡ 35 → ⊥) → eqb p b ≡ stands p b
   unfolding stands
   stands_itself h = sym (picks_second _ _ (ne_eqb p 35 h))
+
+-- among the letters a digit goes up to f
+pub digit_high : (b : ℕ) → 97 ≤ b → leb b 102 ≡ is_digit b
+unfolding is_digit
+digit_high b h = rw (le-leb 48 b (omega arith), lt-leb b 57 (omega arith), le-leb 97 b h)

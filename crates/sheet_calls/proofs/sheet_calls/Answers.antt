@@ -1,9 +1,9 @@
 use Rattle.std.proofs.Common.{rules, ◌≡◌, Ok}
-use Rattle.calls.proofs.Ends.{refused_bad, good_kept, calls_fit, refused_short, done}
+use Rattle.calls.proofs.Ends.{malformed_eight, good_kept, calls_fit, refused_short, done}
 use Rattle.sheet_calls.proofs.sheet_calls.Goals as goal
 
 pub returns-in_err-lines-clause-answer : goal.returns-in_err-lines-clause-answer
-returns-in_err-lines-clause-answer c = search (refused_bad, rules)
+returns-in_err-lines-clause-answer c = search (malformed_eight, rules)
 
 pub count_of-count-requires : goal.count_of-count-requires
 count_of-count-requires c =
