@@ -18,6 +18,7 @@ pub struct Clock {
 }
 
 // The Address Register and the R.G.B pointer, latched red and green, the registers.
+// Stays: C hands in a state of any bytes, and refusal 9 answers it, so its ranges can't be the type's own.
 #[repr(C)]
 #[derive(Clone, Copy)]
 pub struct State {
@@ -32,6 +33,7 @@ pub struct State {
 }
 
 // What a call answers: refusal (0 for none), value, and the state after it.
+// Stays: the C interface; C reads the refusal's number beside the value and the state.
 #[repr(C)]
 #[derive(Clone, Copy)]
 pub struct Answer {

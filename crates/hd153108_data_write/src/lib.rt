@@ -12,6 +12,7 @@ use hd153108::State;
 use vocabulary::Colour;
 
 // A colour into a table.
+// Stays: copy_from_slice of an array of the three bytes is no plainer than the three by their names.
 #[tactic(auto, unfolding(vocabulary::specs::Component::put))]
 fn put_colour(t: &mut [u8], e: usize, c: Colour)
     requires { 3 * e + 3 ≤ length t.old }
@@ -24,6 +25,7 @@ fn put_colour(t: &mut [u8], e: usize, c: Colour)
 }
 
 // A data write to either table: e is the entry, after the address that follows it.
+// Stays: the tables differ in length, so a type that holds an entry to its table would be made anew for each access.
 pub fn data_write(s: State, byte: u8, t: &mut [u8], e: usize, after: u8) -> State
     requires { 3 * e + 3 ≤ length t.old }
     ensures { (result ≡ stepped (component_at s.pointer) after (latched (component_at s.pointer) byte s))

@@ -13,6 +13,7 @@ use hd153108::{Answer, State};
 use vocabulary::Refusal;
 
 // A call that is refused, and one that is accepted.
+// Stays: each chip's Answer is a C struct of its own, and a generic one can't be exported, so neither is shared.
 pub fn refused(r: Refusal, s: State) -> Answer
     ensures { result ≡ refuse (number r) s }
 {
@@ -34,6 +35,7 @@ pub fn accepted(v: u8, s: State) -> Answer
 }
 
 // The address after an access to blue.
+// Stays: 256, the number of colours, is no byte, so one function for both numbers needs wider sums and casts.
 pub fn next_colour(address: u8) -> u8
     ensures { result ≡ next colour address }
 {

@@ -39,6 +39,7 @@ fn shows_colour(off: bool, enable: u8, control: u8, number: u8) -> bool
 }
 
 // The one decision: refusals 1 and 9, then the table and its entry.
+// Stays: the calls are lent two tables, as C lends them; a struct of both would be made only to be taken apart here.
 pub fn picked(
     s: State,
     enable: u8,

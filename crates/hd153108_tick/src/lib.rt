@@ -14,6 +14,7 @@ use hd153108_range::period_of;
 use vocabulary::Refusal;
 
 // What a blink step answers.
+// Stays: the refusal is a number here and in the answer of a lent tick, since C has them.
 #[repr(C)]
 #[derive(Clone, Copy)]
 pub struct ClockAnswer {

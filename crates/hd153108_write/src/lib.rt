@@ -23,6 +23,7 @@ pub fn zk_a_write(s: State, select: u8, byte: u8, colours: &mut [u8], overlays: 
         return refused(r, s);
     }
     let a = s.address;
+    // Stays: a select is its number of Table 1.1, matched here and at a read; an enum would be that table once more.
     match select {
         0 => hd153108_set::set_address(s, byte),
         1 => accepted(0, data_write(s, byte, colours, a as usize, next_colour(a))),

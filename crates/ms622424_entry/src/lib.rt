@@ -9,6 +9,7 @@ ghost use Rattle.vocabulary.specs.Component.{Component};
 ghost use Rattle.ms622424.specs.Ms622424.{pixel_byte, entry_shown};
 
 // The entry that a gun shows, of which `byte` is the gun's own byte of the pixel.
+// Stays: the mode is the number that C gives, which the pixel has tested.
 pub fn entry(mode: u8, word: u32, byte: u32) -> usize
     requires { (mode < 4) × (byte < 256) }
     ensures { (result < 8192) × ((k : Component) → byte ≡ pixel_byte k word → result ≡ entry_shown mode word k) }

@@ -26,6 +26,7 @@ pub fn zk_b_write(s: State, select: u8, byte: u8, queue: &mut [u64], map: &mut [
     if !ms622424_range::in_range(s, places) {
         return refused(Refusal::OutOfRange, s);
     }
+    // Stays: a select is its number of 004's truth table, matched here and at a read; an enum would be that table again.
     match select {
         0 => ms622424_set::set_address_low(s, byte),
         1 => ms622424_set::set_address_high(s, byte),

@@ -8,6 +8,7 @@ ghost use Rattle.std.specs.Prelude.{◌≡◌};
 ghost use Rattle.vocabulary.specs.Reply.{decoded, reply};
 
 // The number that tells a C program a call's refusal, value, count and line.
+// Stays: the refusal is a number, as the 64 bits that C reads have it.
 pub fn packed(refusal: u8, value: u16, count: u16, line: u16) -> u64
     ensures { decoded result ≡ reply refusal value count line }
 {

@@ -20,6 +20,7 @@ pub struct Colour {
 }
 
 // The index, the latches, the fetched entry, the place in the order (0 red, 1 green, 2 blue) and register 0x000E.
+// Stays: place and refusal are numbers, since C has these structs; one answer for all chips can't go to C.
 #[repr(C)]
 #[derive(Clone, Copy)]
 pub struct State {

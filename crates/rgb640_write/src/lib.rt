@@ -36,6 +36,7 @@ pub fn zk_c_write(s: State, port: u8, byte: u8, table: &mut [u16]) -> Answer
         return refused(r, s);
     }
     let table = table.as_mut_array().unwrap();
+    // Stays: a port is its number of section 9.1, matched here and at a read; an enum would be that table once more.
     match port {
         4 => {
             let index = s.index / 256 * 256 + (byte as u16);

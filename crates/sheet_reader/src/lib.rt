@@ -20,6 +20,7 @@ pub fn read(text: &[u8]) -> Result<[Option<u16>; 265], u16>
     let mut due: u16 = 0;
     let mut n: u16 = 1;
     let mut at: usize = 0;
+    // Stays: a while, since the place moves on by a line's length and no index is counted.
     while at < text.len() {
         let Found { key, value, next } = sheet_key::line_at(text, at, due).ok_or(n)?;
         kept[key as usize] = Some(value);

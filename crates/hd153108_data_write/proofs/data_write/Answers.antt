@@ -1,5 +1,4 @@
 use Rattle.std.proofs.Common.{arith}
-use Rattle.std.proofs.lemmas.Grind.{common_steps}
 use Rattle.hd153108.specs.Hd153108.{stepped, latched, stored}
 use Rattle.hd153108.proofs.Access.{places}
 use Rattle.hd153108_data_write.proofs.data_write.Goals as goal

@@ -1,7 +1,7 @@
 -- Refusal 1 by the length, 9 by the revision or the board (`reset_short`, `reset_outside`), for any map m, since none
 -- is lent. Accepted, no colour waits, the first position is 0 and the registers are set: the fresh chip (`fresh_chip`,
 -- `reset_does`).
-use Rattle.std.proofs.Common.{rules, ap, ◌∙◌, arith}
+use Rattle.std.proofs.Common.{ap, ◌∙◌, arith}
 use Rattle.vocabulary.specs.Outcome.{accepting}
 use Rattle.ms622424.proofs.Reset.{reset_short, reset_outside, reset_does}
 use Rattle.ms622424_places.proofs.Does.{refuses, accepts, fresh_chip}

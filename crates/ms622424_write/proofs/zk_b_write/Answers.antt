@@ -1,5 +1,5 @@
--- The tables as arrays hold what was lent (`IsWholeChunk`). A length or a range gives the refusal (`tried`), else all is
--- in range; then by the select, each arm by its call's promise. A select that no arm names can't be written
+-- The tables as arrays hold what was lent (`IsWholeChunk`). A length or a range gives the refusal (`tried`), else all
+-- is in range; then by the select, each arm by its call's promise. A select that no arm names can't be written
 -- (`not_written`).
 use Rattle.std.proofs.Common.{rules, ◌≡◌, refl, arith}
 use Rattle.ms622424.specs.Ms622424.{writes, register_at, writable, written}
@@ -31,7 +31,8 @@ returns-then-not-in_range c =
     rw (w.same, v.same)
     (refuses _ _ _ _ _ c.refused-then-not-in_range.ensures
     (tried (writes c.args.select c.args.byte) (view (handed c.args.s c.args.queue.now c.args.map.now)) 9 refl refl
-    (arrays_outside c.args.s c.args.queue.now c.args.map.now _ _ w v _ c.in_range.ensures c.if-not-in_range.true) (λ e. omega arith)))
+    (arrays_outside c.args.s c.args.queue.now c.args.map.now _ _ w v _ c.in_range.ensures c.if-not-in_range.true)
+    (λ e. omega arith)))
 
 pub write_palette-requires : goal.write_palette-requires
 write_palette-requires c =
@@ -79,7 +80,8 @@ unfolding register_at writable written
 returns-in-7 c =
     let w = c.in-Some.ensures.cases in
     let v = c.in-Some-as_mut_array.ensures.cases in
-    let h = arrays_in_range c.args.s c.args.queue.now c.args.map.now _ _ w v _ c.in_range.ensures c.if-not-in_range.false in
+    let h =
+    arrays_in_range c.args.s c.args.queue.now c.args.map.now _ _ w v _ c.in_range.ensures c.if-not-in_range.false in
     rw (w.same, v.same)
     (accepts _ _ _ _ _ _ _ c.accepted.ensures (write_does _ _ _ h (search rules) 7 (omega arith) refl refl refl))
 
@@ -88,7 +90,8 @@ returns-in_default-select c =
     let d = c.in_default-select in
     let w = c.in-Some.ensures.cases in
     let v = c.in-Some-as_mut_array.ensures.cases in
-    let h = arrays_in_range c.args.s c.args.queue.now c.args.map.now _ _ w v _ c.in_range.ensures c.if-not-in_range.false in
+    let h =
+    arrays_in_range c.args.s c.args.queue.now c.args.map.now _ _ w v _ c.in_range.ensures c.if-not-in_range.false in
     rw (w.same, v.same)
     (refuses _ _ _ _ _ c.refused-in_default-select.ensures
     (not_written _ _ _ h (search rules) (λ e. omega arith) (λ e. omega arith) (λ e. omega arith) (λ e. omega arith)
