@@ -13,6 +13,7 @@ use Rattle.port_log.specs.declared.Chip as L
 use Rattle.port_log.specs.declared.Chip.TheVariants.{ChipA, ChipB, ChipC}
 use Rattle.answers.specs.Answers.{bad_text, refused_text, told}
 use Rattle.board.specs.declared.Board.{Board}
+use Rattle.board.specs.declared.Answer.{Answer}
 use Rattle.board.specs.declared.Step.{Step}
 use Rattle.board.specs.Board.{whole, sheet_turn, says, StepTook}
 use Rattle.board.proofs.Steps.{took_text, says_page, sheet_at}
@@ -30,29 +31,31 @@ told_refusal ShortBuffer text = refl
 told_refusal Malformed text = refl
 told_refusal OutOfRange text = refl
 
-module _ {r : Step} {s : Board} (cs os queue map table page after : List ℕ) {k : L.Chip} where
-  took_sheet : (a : S.Answer) → S.outcome a after ≡ S.write (A.chip s.a cs os) page
-      → r ≡ record { board = s; answer = listed a }
-      → StepTook r cs os queue map table after (sheet_turn ChipA (whole s cs os queue map table page))
+module _ (s : Board) (cs os queue map table page after : List ℕ) where
+  took_sheet : (a : S.Answer) {t : Answer} → S.outcome a after ≡ S.write (A.chip s.a cs os) page → t ≡ listed a
+      → StepTook (record { board = s; answer = t }) cs os queue map table after
+      (sheet_turn ChipA (whole s cs os queue map table page))
   took_sheet (Ok n) e is =
       rw (is, sym e) (record { says = says_page (A.chip s.a cs os) page n after e; leaves = refl })
   took_sheet (Err t) e is = rw (is, sym e) (record { says = told_refusal t.refusal _; leaves = refl })
 
   -- the sheet of the chip chosen
-  pub sheet_a : {a : S.Answer} → k ≡ ChipA → S.outcome a after ≡ S.write (A.chip s.a cs os) page
-      → r ≡ record { board = s; answer = listed a }
-      → StepTook r cs os queue map table after (sheet_turn k (whole s cs os queue map table page))
-  sheet_a {a} m e is = sheet_at (whole s cs os queue map table page) m (took_sheet a e is)
+  pub sheet_a : (a : S.Answer) {t : Answer} {k : L.Chip} → k ≡ ChipA
+      → S.outcome a after ≡ S.write (A.chip s.a cs os) page → t ≡ listed a
+      → StepTook (record { board = s; answer = t }) cs os queue map table after
+      (sheet_turn k (whole s cs os queue map table page))
+  sheet_a a m e is = sheet_at (whole s cs os queue map table page) m (took_sheet a e is)
 
-  -- bad on the chips that have none
-  pub sheet_b : {text : List ℕ} → k ≡ ChipB → text ≡ bad_text → r ≡ says s text
+-- bad on the chips that have none
+module _ {s : Board} {r : Step} {text : List ℕ} {k : L.Chip} (cs os queue map table page : List ℕ) where
+  pub sheet_b : k ≡ ChipB → text ≡ bad_text → r ≡ says s text
       → StepTook r cs os queue map table page (sheet_turn k (whole s cs os queue map table page))
   sheet_b m h is =
       let w = whole s cs os queue map table page in rw is (sheet_at w m (took_text w h))
 
-  pub sheet_c : {text : List ℕ} → k ≡ ChipC → text ≡ bad_text → r ≡ says s text
+  pub sheet_c : k ≡ ChipC → text ≡ bad_text → r ≡ says s text
       → StepTook r cs os queue map table page (sheet_turn k (whole s cs os queue map table page))
   sheet_c m h is =
       let w = whole s cs os queue map table page in rw is (sheet_at w m (took_text w h))
 
-pub ruleset sheets = (sheet_a, sheet_b, sheet_c)
+pub ruleset sheets = (sheet_b, sheet_c)

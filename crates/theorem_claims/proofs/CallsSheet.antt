@@ -12,11 +12,9 @@ use Rattle.vocabulary.specs.declared.Refusal.{Refusal}
 use Rattle.vocabulary.specs.declared.Refusal.TheVariants.{LentLength, OverFifteen, NoAccess, NoIndex, ReadMode}
 use Rattle.vocabulary.specs.declared.Refusal.TheVariants.{StillWaiting, ShortBuffer, Malformed, OutOfRange}
 use Rattle.vocabulary.proofs.Refusals.{number_positive}
-use Rattle.expand.specs.declared.Expanded.{Expanded}
-use Rattle.expand.specs.declared.Expanded.TheVariants.{Ten, Refused as ExpandRefused}
 use Rattle.expand.specs.Expand.{refusals, expansion, meaning}
 use Rattle.hd153108.specs.Hd153108.{Chip}
-use Rattle.std.specs.Prelude.{Ok, Err}
+use Rattle.std.specs.Prelude.{Result, Ok, Err}
 use Rattle.sheet.specs.Sheet.{sheet_of, bad_line, write_refusals, write, Answer, outcome, Heard}
 use Rattle.calls.specs.Calls.{call_refusals, sheet_to_calls}
 use Rattle.vocabulary.specs.Judged.{Judged}
@@ -39,15 +37,41 @@ pub calls_judged : (text out : List ℕ)
 unfolding sheet_to_calls
 calls_judged text out = judged (call_refusals (sheet_of text) out) (bad_line (sheet_of text)) out _ refl
 
+-- ---- determined: the refusal that has a number, and what is made of it; 0 is no refusal's
+refusal_for : ℕ → Refusal
+refusal_for n =
+    get_or
+    (LentLength ∷ OverFifteen ∷ NoAccess ∷ NoIndex ∷ ReadMode ∷ StillWaiting ∷ ShortBuffer ∷ Malformed ∷ OutOfRange ∷ [])
+    (n - 1) LentLength
+
+made_by : {A : Type 0} → A → (Refusal → A) → ℕ → A
+made_by done refused zero = done
+made_by done refused (suc n) = refused (refusal_for (suc n))
+
+refused_back : {A : Type 0} (done : A) (refused : Refusal → A) (r : Refusal)
+    → made_by done refused (number r) ≡ refused r
+unfolding made_by refusal_for
+refused_back done refused LentLength = refl
+refused_back done refused OverFifteen = refl
+refused_back done refused NoAccess = refl
+refused_back done refused NoIndex = refl
+refused_back done refused ReadMode = refl
+refused_back done refused StillWaiting = refl
+refused_back done refused ShortBuffer = refl
+refused_back done refused Malformed = refl
+refused_back done refused OutOfRange = refl
+
 -- ---- determined: an expander's answer, and the number that C gets
+abbrev Expanded : Type 0
+Expanded = Result ℕ Refusal
+
 expanded_of : ℕ → ℕ → Expanded
-expanded_of zero value = Ten value
-expanded_of (suc n) value = ExpandRefused
+expanded_of refusal value = made_by (Ok value) (λ r. Err r) refusal
 
 expanded_back : (a : Expanded) → expanded_of (meaning a).refusal (meaning a).value ≡ a
-unfolding expanded_of
-expanded_back (Ten t) = refl
-expanded_back ExpandRefused = refl
+unfolding expanded_of made_by
+expanded_back (Ok t) = refl
+expanded_back (Err r) = refused_back (Ok 0) (λ q. Err q) r
 
 module _ (w v : ℕ) where
   pub expand_determined : Determined meaning (expansion w v)
@@ -64,28 +88,8 @@ pub numbered : (a : Answer) → Numbered a
 numbered (Ok count) = tt
 numbered (Err e) = number_positive e.refusal
 
--- the refusal that has a number
-refusal_for : ℕ → Refusal
-refusal_for n =
-    get_or
-    (LentLength ∷ OverFifteen ∷ NoAccess ∷ NoIndex ∷ ReadMode ∷ StillWaiting ∷ ShortBuffer ∷ Malformed ∷ OutOfRange ∷ [])
-    (n - 1) LentLength
-
 answer_of : ℕ → ℕ → ℕ → Answer
-answer_of zero count line = Ok count
-answer_of (suc n) count line = Err (record { refusal = refusal_for (suc n); line = line })
-
-refused_back : (r : Refusal) (line : ℕ) → answer_of (number r) 0 line ≡ Err (record { refusal = r; line = line })
-unfolding answer_of refusal_for
-refused_back LentLength line = refl
-refused_back OverFifteen line = refl
-refused_back NoAccess line = refl
-refused_back NoIndex line = refl
-refused_back ReadMode line = refl
-refused_back StillWaiting line = refl
-refused_back ShortBuffer line = refl
-refused_back Malformed line = refl
-refused_back OutOfRange line = refl
+answer_of refusal count line = made_by (Ok count) (λ r. Err (record { refusal = r; line = line })) refusal
 
 abbrev Saw : Type 0
 Saw = Answer × List ℕ
@@ -94,9 +98,10 @@ saw_of : Outcome (List ℕ) → Saw
 saw_of o = (answer_of o.refusal o.count o.line, o.left)
 
 saw_back : (x : Saw) → saw_of (outcome x.0 x.1) ≡ x
-unfolding saw_of answer_of
+unfolding saw_of answer_of made_by
 saw_back (Ok count, out) = refl
-saw_back (Err e, out) = rw (refused_back e.refusal e.line) refl
+saw_back (Err e, out) =
+    rw (refused_back (Ok 0) (λ r. Err (record { refusal = r; line = e.line })) e.refusal) refl
 
 fills : (d : Outcome (List ℕ)) → Fills d
 fills d = determined {A = Saw} (λ x. outcome x.0 x.1) saw_of saw_back d
