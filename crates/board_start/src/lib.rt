@@ -18,7 +18,7 @@ use port_log::Chip;
 use rgb640::State as CState;
 
 // Chip A after its first reset, which reads nothing of the state before.
-// Stays: zeros written out, since the chips' states are the structs that C sees, and those get no derive here.
+// Stays: zeros written out, beside the two numbers of `revised` that are not 0; a reset's definition has them so, too.
 fn a_start() -> AState
     ensures { result ≡ a_zeroed }
 {

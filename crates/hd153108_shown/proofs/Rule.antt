@@ -27,7 +27,7 @@ use Rattle.hd153108.proofs.Lent.{pixel_lent}
 use Rattle.hd153108.proofs.Masks.{masked_fits}
 use Rattle.hd153108_shown.specs.declared.Pick.{Pick}
 use Rattle.hd153108_shown.specs.declared.Pick.TheVariants.{Colour, Overlay}
-use Rattle.hd153108_shown.specs.Picked.{is_colour, meaning, Inside, Which, Picked}
+use Rattle.hd153108_shown.specs.Picked.{is_colour, meaning, Inside, Picked}
 
 is_colour_lem : (t : Table) → is_colour t ≡ true → t ≡ colour
 is_colour_lem colour e = refl

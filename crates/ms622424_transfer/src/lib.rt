@@ -12,7 +12,7 @@ ghost use Rattle.ms622424_places.specs.Places.{handed, view};
 use ms622424_places::{Fifo, Map, Moved, Queue, State};
 
 // The moves of `slots` slots: into the map, every place as it was.
-// Stays: `InRange` asked of state and tables apart, since a ghost field beside a lent table gets no generated proof.
+// Stays: `InRange` asked of state and tables apart; a struct of them would be made of a call's own parameters each time.
 pub fn transfer(s: State, slots: u32, queue: &Queue, map: &mut Map) -> Moved
     requires { InRange (view (handed s queue.now map.old)) }
     ensures { made result.count (view (handed result.state queue.now map.new))

@@ -1,6 +1,6 @@
 -- The start of a replay: nothing is read, nothing waits, and the board is as a reset leaves it.
 use Rattle.std.proofs.Common.{ℕ, ◌-◌, ◌^◌, ◌<◌, ◌≡◌, List, [], ◌++◌, length, replicate, None, Some, IfSome, Result}
-use Rattle.std.proofs.Common.{Ok, Err, OnOk, refl, sym, ap, ◌∙◌, subst, append-nil}
+use Rattle.std.proofs.Common.{Ok, Err, OnOk, sym, ap, ◌∙◌, subst, append-nil}
 use Rattle.std.specs.declared.option.Option.{Option}
 use Rattle.std.specs.Io.KnownBytes.{Appends, append_known}
 use Rattle.hd153108.specs.Hd153108 as A

@@ -1,6 +1,6 @@
 -- Two rows, refusals 1 and 9: `refusal_is` where a row is due and none before it, `refusal_none` where neither is.
 -- The length is the code's own test; the ranges are what `in_range` promises.
-use Rattle.std.proofs.Common.{refl, sym, ◌∙◌, [], ◌∷◌, arith}
+use Rattle.std.proofs.Common.{refl, sym, ◌∙◌, [], ◌∷◌}
 use Rattle.vocabulary.specs.Refusal.{standing}
 use Rattle.vocabulary.specs.declared.Refusal.TheVariants.{LentLength, OutOfRange}
 use Rattle.vocabulary.proofs.Range.{not_fails, holds_passes, misses_fails, meets_passes}

@@ -1,4 +1,3 @@
-use Rattle.std.proofs.Common.{rules}
 use Rattle.rgb640_read.proofs.Arms.{stopped}
 use Rattle.rgb640_read.proofs.zk_c_read.Goals as goal
 
