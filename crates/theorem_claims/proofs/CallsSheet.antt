@@ -101,7 +101,7 @@ saw_back : (x : Saw) → saw_of (outcome x.0 x.1) ≡ x
 unfolding saw_of answer_of made_by
 saw_back (Ok count, out) = refl
 saw_back (Err e, out) =
-    rw (refused_back (Ok 0) (λ r. Err (record { refusal = r; line = e.line })) e.refusal) refl
+    rw (refused_back {A = Answer} (Ok 0) (λ r. Err (record { refusal = r; line = e.line })) e.refusal) refl
 
 fills : (d : Outcome (List ℕ)) → Fills d
 fills d = determined {A = Saw} (λ x. outcome x.0 x.1) saw_of saw_back d
