@@ -1,10 +1,11 @@
--- What a step's result means of the clock that it was made on: it leaves the clock after the tick, or that one.
-use Rattle.std.specs.Prelude.{Result, Ok, Err}
+-- What a step's result means of the numbers that it was made of: the clock after the tick, or the one before.
+use Rattle.std.specs.Prelude.{ℕ, Result, Ok, Err}
 use Rattle.vocabulary.specs.declared.Refusal.{Refusal}
 use Rattle.vocabulary.specs.Refusal.{number}
 use Rattle.vocabulary.specs.Outcome.{Outcome, accepting, refusing}
+use Rattle.hd153108.specs.Hd153108.{clock}
 use Rattle.hd153108.specs.declared.Clock.{Clock}
 
-abbrev pub stepping : Clock → Result Clock Refusal → Outcome Clock
-stepping k (Ok after) = accepting 0 0 after
-stepping k (Err r) = refusing (number r) 0 k
+abbrev pub stepping : ℕ → ℕ → Result ℕ Refusal → Outcome Clock
+stepping timing position (Ok after) = accepting 0 0 (clock timing after)
+stepping timing position (Err r) = refusing (number r) 0 (clock timing position)

@@ -6,7 +6,7 @@
 #![tactic(auto)]
 
 ghost use Rattle.std.specs.Prelude.{◌≡◌};
-ghost use Rattle.hd153108.specs.Hd153108.{tick, clock_outcome};
+ghost use Rattle.hd153108.specs.Hd153108.{clock, tick, clock_outcome};
 ghost use Rattle.hd153108_tick.specs.Step.{stepping};
 
 use hd153108::Clock;
@@ -22,24 +22,26 @@ pub struct ClockAnswer {
     pub clock: Clock,
 }
 
-// The clock after a tick, or why there is none.
-fn step(k: Clock) -> Result<Clock, Refusal>
-    ensures { stepping k result ≡ tick k }
+// The blink position after a tick, or why there is none.
+fn step(timing: u8, position: u8) -> Result<u8, Refusal>
+    ensures { stepping timing position result ≡ tick (clock timing position) }
 {
-    let period = period_of(k.timing);
-    if period <= k.position {
+    let period = period_of(timing);
+    if period <= position {
         return Err(Refusal::OutOfRange);
     }
-    let position = (k.position + 1) % period;
-    Ok(Clock { position, ..k })
+    Ok((position + 1) % period)
 }
 
 // One tick more, by value.
 pub fn zk_a_step(k: Clock) -> ClockAnswer
     ensures { clock_outcome result.refusal result.clock ≡ tick k }
 {
-    match step(k) {
-        Ok(clock) => ClockAnswer { refusal: 0, clock },
+    match step(k.timing, k.position) {
+        Ok(position) => ClockAnswer {
+            refusal: 0,
+            clock: Clock { position, ..k },
+        },
         Err(r) => ClockAnswer {
             refusal: u8::from(r),
             clock: k,
@@ -51,7 +53,11 @@ pub fn zk_a_step(k: Clock) -> ClockAnswer
 pub fn zk_a_tick(k: &mut Clock) -> u8
     ensures { clock_outcome result k.new ≡ tick k.old }
 {
-    let answer = zk_a_step(*k);
-    *k = answer.clock;
-    answer.refusal
+    match step(k.timing, k.position) {
+        Ok(position) => {
+            k.position = position;
+            0
+        }
+        Err(r) => u8::from(r),
+    }
 }

@@ -1,8 +1,8 @@
 // The reader of a sheet, line by line.
 //
 // Document 01, "The sheet and its calls", decides; specs/Sheet.antt of crate sheet says what a sheet is, and `read`
-// equals it. One line's answer is sheet_key's; a bad line leaves at once with its number. Any number of bytes
-// may come in. Not modelled: files, and lines that end in CR.
+// equals it. One line's answer is sheet_key's; a bad line leaves at once with its number. Any number of bytes may come
+// in. Not modelled: files, and lines that end in CR.
 #![tactic(auto)]
 
 ghost use Rattle.std.specs.Prelude.{◌≡◌};
@@ -22,7 +22,9 @@ pub fn read(text: &[u8]) -> Result<[Option<u16>; 265], u16>
     let mut at: usize = 0;
     // Stays: a while, since the place moves on by a line's length and no index is counted.
     while at < text.len() {
-        let Found { key, value, next } = sheet_key::line_at(text, at, due).ok_or(n)?;
+        let Some(Found { key, value, next }) = sheet_key::line_at(text, at, due) else {
+            return Err(n);
+        };
         kept[key as usize] = Some(value);
         at = next;
         due = key + 1;
