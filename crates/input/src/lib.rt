@@ -7,7 +7,8 @@
 // nothing more is read. No heap is a rule of the project, so that std's BufReader, which has one, does not serve.
 #![tactic(auto)]
 
-ghost use Rattle.std.specs.Prelude.{◌≡◌, ◌<◌, ◌≤◌, List, ℕ, [], length, drop, slice_range, IsTrue, ◌↔◌, IfOk, OnOk, OnErr};
+ghost use Rattle.std.specs.Prelude.{◌≡◌, ◌<◌, ◌≤◌, ◌⊎◌, List, ℕ, [], length, drop, slice_range};
+ghost use Rattle.std.specs.Prelude.{IsTrue, ◌↔◌, IfOk, OnOk, OnErr};
 ghost use Rattle.std.specs.Io.KnownBytes.{Keeps};
 ghost use Rattle.printer.specs.Held.{held};
 ghost use Rattle.input.specs.Input.{Answered, Next, coming, Ends};
@@ -60,12 +61,17 @@ impl<const N: usize> Input<N> {
     }
 
     // Reads once, when nothing waits: whether something came; nothing ends the input.
-    fn read<R: io::Read>(&mut self, from: &mut R, _waits: &[u8]) -> io::Result<bool>
-        requires { Answered self.old _waits.now }
+    fn read<R: io::Read, const M: usize>(
+        &mut self,
+        from: &mut R,
+        _out: &Printer<M>,
+    ) -> io::Result<bool>
+        requires { Answered self.old _out.now }
         ensures more { IfOk result (λ more. IsTrue more ↔ (0 < length self.new)) }
         ensures keeps { OnOk result
             (Keeps (coming (R.remaining from.old) self.old) (coming (R.remaining from.new) self.new)) }
         ensures ends { 0 < N → IfOk result (λ more. Ends more (R.remaining from.new)) }
+        ensures err { OnErr result (self.new ≡ []) }
     {
         let all = &mut self.bytes[..];
         let n = from.read(all)?;
@@ -83,6 +89,8 @@ impl<const N: usize> Input<N> {
     ) -> io::Result<bool>
         ensures ok { IfOk result (λ more. Next self.old self.new out.old out.new more) }
         ensures err { OnErr result (self.old ≡ []) }
+        ensures stays { OnErr result (self.new ≡ self.old) }
+        ensures waits { OnErr result ((out.new ≡ out.old) ⊎ (out.new ≡ [])) }
         ensures keeps { OnOk result
             (Keeps (coming (R.remaining from.old) self.old) (coming (R.remaining from.new) self.new)) }
         ensures ends { 0 < N → IfOk result (λ more. Ends more (R.remaining from.new)) }
@@ -93,6 +101,6 @@ impl<const N: usize> Input<N> {
             return Ok(true);
         }
         out.flush(to)?;
-        self.read(from, out.waits())
+        self.read(from, out)
     }
 }

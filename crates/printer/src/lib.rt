@@ -68,23 +68,18 @@ impl<const N: usize> Printer<N> {
         self.waiting = end;
     }
 
-    // The same of any number of bytes: where they find no room, what waits is printed first, filled up with them.
+    // The same of any number of bytes, in one piece: where they find no room, what waits is printed first.
     pub fn say<W: Write>(&mut self, to: &mut W, bytes: &[u8]) -> io::Result<()>
         ensures { OnOk result (Appends (held (W.contents to.old) self.old)
             (held (W.contents to.new) self.new) bytes.now) }
     {
-        let room = N - self.waiting;
-        if bytes.len() <= room {
-            self.put(bytes);
-            return Ok(());
+        if bytes.len() > N - self.waiting {
+            self.flush(to)?;
+            if bytes.len() > N {
+                return to.write_all(bytes);
+            }
         }
-        self.put(&bytes[..room]);
-        self.flush(to)?;
-        let rest = &bytes[room..];
-        if rest.len() > N {
-            return to.write_all(rest);
-        }
-        self.put(rest);
+        self.put(bytes);
         Ok(())
     }
 }
