@@ -8,7 +8,8 @@
 // error a part may have been printed. Not modelled: what `fields` prints, which no contract says.
 #![tactic(auto)]
 
-ghost use Rattle.std.specs.Prelude.{◌≡◌, ◌<◌, [], ◌∷◌, ◌++◌, length, get_or, take, drop, IfOk, OnOk};
+ghost use Rattle.std.specs.Prelude.{◌≡◌, ◌<◌, ◌⊎◌, [], ◌∷◌, ◌++◌, length, get_or, take, drop, IfOk, OnOk};
+ghost use Rattle.std.specs.Slice.Iter.{iter_rest};
 ghost use Rattle.std.specs.Io.{ReadsAtMost};
 ghost use Rattle.std.specs.Io.KnownBytes.{Appends, Consumes, IsAtEnd};
 ghost use Rattle.std.specs.Fmt.{decimal};
@@ -97,8 +98,11 @@ pub fn hex<W: Write>(out: &mut W, name: &[u8], n: u64, width: usize) -> io::Resu
 }
 
 // Prints a byte of a text, or the next number in its place: '%' stands for two hex digits, and '#' for a decimal
-// number.
-fn field<W: Write>(out: &mut W, c: u8, numbers: &mut Iter<'_, u8>) -> io::Result<()> {
+// number. At most one number is taken, whether it was printed or not.
+fn field<W: Write>(out: &mut W, c: u8, numbers: &mut Iter<'_, u8>) -> io::Result<()>
+    ensures one { (iter_rest numbers.new ≡ iter_rest numbers.old)
+        ⊎ (iter_rest numbers.new ≡ drop 1 (iter_rest numbers.old)) }
+{
     match c {
         b'%' => {
             let number = next(numbers);
@@ -113,7 +117,10 @@ fn field<W: Write>(out: &mut W, c: u8, numbers: &mut Iter<'_, u8>) -> io::Result
 }
 
 // The next number, or 0 where there is none.
-fn next(numbers: &mut Iter<'_, u8>) -> u8 {
+fn next(numbers: &mut Iter<'_, u8>) -> u8
+    ensures first { result ≡ get_or (iter_rest numbers.old) 0 0 }
+    ensures rest { iter_rest numbers.new ≡ drop 1 (iter_rest numbers.old) }
+{
     numbers.next().copied().unwrap_or(0)
 }
 
