@@ -13,15 +13,22 @@ use hd153108::{Answer, State};
 use vocabulary::Refusal;
 
 // A call that is refused, and one that is accepted.
-// Stays: each chip's Answer is a C struct of its own, and a generic one can't be exported, so neither is shared.
-pub fn refused(r: Refusal, s: State) -> Answer
-    ensures { result ≡ refuse (number r) s }
+// Stays: each chip's Answer is a C struct of its own, and a generic one can't be exported, so none is shared.
+pub fn refused(n: u8, s: State) -> Answer
+    ensures { result ≡ refuse n s }
 {
     Answer {
-        refusal: u8::from(r),
+        refusal: n,
         value: 0,
         state: s,
     }
+}
+
+// One that is refused for one of the nine refusals.
+pub fn refused_for(r: Refusal, s: State) -> Answer
+    ensures { result ≡ refuse (number r) s }
+{
+    refused(u8::from(r), s)
 }
 
 pub fn accepted(v: u8, s: State) -> Answer

@@ -9,7 +9,7 @@ ghost use Rattle.hd153108.specs.Hd153108.{chip, outcome, reads, called};
 
 use hd153108::{Answer, State};
 use hd153108_data_read::data_read;
-use hd153108_port::{accepted, next_colour, next_overlay, refused};
+use hd153108_port::{accepted, next_colour, next_overlay, refused_for};
 use hd153108_range::standing;
 use vocabulary::Refusal;
 
@@ -19,7 +19,7 @@ pub fn zk_a_read(s: State, select: u8, colours: &[u8], overlays: &[u8]) -> Answe
         ≡ called (reads select) (chip s colours.now overlays.now) }
 {
     if let Err(r) = standing(s, colours.len(), overlays.len()) {
-        return refused(r, s);
+        return refused_for(r, s);
     }
     let a = s.address;
     let at_red = State { pointer: 0, ..s };
@@ -31,6 +31,6 @@ pub fn zk_a_read(s: State, select: u8, colours: &[u8], overlays: &[u8]) -> Answe
         5 => accepted(s.blinkmask, s),
         6 => accepted(s.control, s),
         7 => accepted(s.clock.timing, s),
-        _ => refused(Refusal::NoAccess, s), // nothing moves
+        _ => refused_for(Refusal::NoAccess, s), // nothing moves
     }
 }

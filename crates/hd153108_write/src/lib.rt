@@ -10,7 +10,7 @@ ghost use Rattle.hd153108.specs.Hd153108.{chip, outcome, writes, called};
 
 use hd153108::{Answer, State};
 use hd153108_data_write::data_write;
-use hd153108_port::{accepted, next_colour, next_overlay, refused};
+use hd153108_port::{accepted, next_colour, next_overlay, refused_for};
 use hd153108_range::standing;
 use vocabulary::Refusal;
 
@@ -20,7 +20,7 @@ pub fn zk_a_write(s: State, select: u8, byte: u8, colours: &mut [u8], overlays: 
         ≡ called (writes select byte) (chip s colours.old overlays.old) }
 {
     if let Err(r) = standing(s, colours.len(), overlays.len()) {
-        return refused(r, s);
+        return refused_for(r, s);
     }
     let a = s.address;
     // Stays: a select is its number of Table 1.1, matched here and at a read; an enum would be that table once more.
@@ -35,6 +35,6 @@ pub fn zk_a_write(s: State, select: u8, byte: u8, colours: &mut [u8], overlays: 
         5 => hd153108_set::set_blink_mask(s, byte),
         6 => hd153108_set::set_control(s, byte),
         7 => hd153108_set::set_timing(s, byte),
-        _ => refused(Refusal::NoAccess, s),
+        _ => refused_for(Refusal::NoAccess, s),
     }
 }

@@ -10,7 +10,7 @@ ghost use Rattle.ms622424.specs.Ms622424.{InRange, reads, called};
 ghost use Rattle.ms622424_places.specs.Places.{handed, view, outcome, Does};
 
 use ms622424_places::{Answer, State};
-use ms622424_port::{accepted, refused, step};
+use ms622424_port::{accepted, refused_for, step};
 use vocabulary::Refusal;
 
 // A read of the Color Palette, on a chip in range whatever queue keeps it.
@@ -20,10 +20,10 @@ pub fn read_palette(s: State, map: &[u8; 24576]) -> Answer
         → Does (handed s q map.now) (outcome result q map.now) (called (reads 2)) }
 {
     if s.control.readmode == 0 {
-        return refused(Refusal::ReadMode, s);
+        return refused_for(Refusal::ReadMode, s);
     }
     if s.fifo.waiting != 0 {
-        return refused(Refusal::StillWaiting, s);
+        return refused_for(Refusal::StillWaiting, s);
     }
     let at = 3 * (s.port.address as usize) + (s.port.counter as usize);
     let port = step(s.port);

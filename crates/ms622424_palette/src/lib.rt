@@ -9,7 +9,7 @@ ghost use Rattle.ms622424.specs.Ms622424.{InRange, palette, written, writes, cal
 ghost use Rattle.ms622424_places.specs.Places.{handed, view, outcome, seen, Does};
 
 use ms622424_places::{Answer, Map, Queue, State};
-use ms622424_port::{accepted, refused};
+use ms622424_port::{accepted, refused_for};
 use vocabulary::Refusal;
 
 // A byte with room made for it.
@@ -29,7 +29,7 @@ pub fn write_palette(s: State, byte: u8, queue: &mut Queue, map: &mut Map) -> An
         (outcome result queue.new map.new) (called (writes 2 byte)) }
 {
     if s.control.readmode == 1 {
-        return refused(Refusal::ReadMode, s);
+        return refused_for(Refusal::ReadMode, s);
     }
     with_room(s, byte, queue, map)
 }

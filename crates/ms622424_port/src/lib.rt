@@ -15,15 +15,22 @@ use ms622424_places::{Answer, State};
 use vocabulary::Refusal;
 
 // A refusal: the state as given, value and count 0.
-pub fn refused(r: Refusal, s: State) -> Answer
-    ensures { result ≡ refuse (number r) s }
+pub fn refused(refusal: u8, s: State) -> Answer
+    ensures { result ≡ refuse refusal s }
 {
     Answer {
-        refusal: u8::from(r),
+        refusal,
         value: 0,
         count: 0,
         state: s,
     }
+}
+
+// The same, for one of the nine refusals.
+pub fn refused_for(r: Refusal, s: State) -> Answer
+    ensures { result ≡ refuse (number r) s }
+{
+    refused(u8::from(r), s)
 }
 
 // An accepted call: what it answers, and the state after it.

@@ -9,7 +9,7 @@ ghost use Rattle.ms622424_places.specs.Places.{handed, outcome, Does};
 
 use ms622424_map_read::read_palette;
 use ms622424_places::{Answer, State};
-use ms622424_port::{accepted, refused};
+use ms622424_port::{accepted, refused_for};
 use ms622424_range::standing_tables;
 use ms622424_registers::{end_read_mode, read_buffer, read_ident};
 use ms622424_status::status;
@@ -21,7 +21,7 @@ pub fn zk_b_read(s: State, select: u8, queue: &[u64], map: &[u8]) -> Answer
         (outcome result queue.now map.now) (called (reads select)) }
 {
     if let Err(r) = standing_tables(s, queue, map.len()) {
-        return refused(r, s);
+        return refused_for(r, s);
     }
     match select {
         0 => accepted((s.port.address % 256) as u8, 0, s),
@@ -32,6 +32,6 @@ pub fn zk_b_read(s: State, select: u8, queue: &[u64], map: &[u8]) -> Answer
         5 => read_buffer(s),
         6 => read_ident(s),
         7 => end_read_mode(s),
-        _ => refused(Refusal::NoAccess, s),
+        _ => refused_for(Refusal::NoAccess, s),
     }
 }

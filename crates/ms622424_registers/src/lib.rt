@@ -12,7 +12,7 @@ ghost use Rattle.ms622424_places.specs.Places.{handed, view, outcome, Does};
 
 use ms622424::{Control, Port};
 use ms622424_places::{Answer, State};
-use ms622424_port::{accepted, refused};
+use ms622424_port::{accepted, refused_for};
 use vocabulary::Refusal;
 
 // The Color Buffer Register: red, then green; there is no blue.
@@ -29,7 +29,7 @@ pub fn read_buffer(s: State) -> Answer
             accepted(s.port.red, 0, State { port, ..s })
         }
         1 => accepted(s.port.green, 0, s),
-        _ => refused(Refusal::NoAccess, s),
+        _ => refused_for(Refusal::NoAccess, s),
     }
 }
 

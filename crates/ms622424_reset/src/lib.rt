@@ -10,7 +10,7 @@ ghost use Rattle.ms622424_places.specs.Places.{handed, outcome, Does};
 
 use ms622424::{Control, Port};
 use ms622424_places::{Answer, Fifo, State};
-use ms622424_port::{accepted, refused};
+use ms622424_port::{accepted, refused_for};
 use vocabulary::Refusal;
 
 // A reset. It is lent no map, and so keeps it; the queue is empty, whatever its places hold.
@@ -19,10 +19,10 @@ pub fn zk_b_reset(s: State, queue: &[u64]) -> Answer
         → Does (handed s queue.now m) (outcome result queue.now m) (called resets) }
 {
     if queue.len() != 64 {
-        return refused(Refusal::LentLength, s);
+        return refused_for(Refusal::LentLength, s);
     }
     if 8 <= s.ident.revision || 16 <= s.ident.board {
-        return refused(Refusal::OutOfRange, s);
+        return refused_for(Refusal::OutOfRange, s);
     }
     let fresh = State {
         port: Port {

@@ -9,7 +9,7 @@ ghost use Rattle.ms622424.specs.Ms622424.{pipe_out, signals as signals_call, cal
 ghost use Rattle.ms622424_places.specs.Places.{handed, outcome, Does};
 
 use ms622424_places::{Answer, State};
-use ms622424_port::{accepted, refused};
+use ms622424_port::{accepted, refused_for};
 use ms622424_range::standing_queue;
 use vocabulary::Refusal;
 
@@ -28,10 +28,10 @@ pub fn zk_b_sync(s: State, signals: u8, queue: &[u64]) -> Answer
         (called (signals_call signals)) }
 {
     if let Err(r) = standing_queue(s, queue) {
-        return refused(r, s);
+        return refused_for(r, s);
     }
     if 15 < signals {
-        return refused(Refusal::OutOfRange, s);
+        return refused_for(Refusal::OutOfRange, s);
     }
     accepted(piped(s.control.command, signals), 0, s)
 }

@@ -9,7 +9,7 @@ ghost use Rattle.ms622424_places.specs.Places.{handed, outcome, Does};
 
 use ms622424::Control;
 use ms622424_places::{Answer, State};
-use ms622424_port::{accepted, refused};
+use ms622424_port::{accepted, refused_for};
 use vocabulary::Refusal;
 
 // A write of a byte to a select.
@@ -18,13 +18,13 @@ pub fn zk_b_write(s: State, select: u8, byte: u8, queue: &mut [u64], map: &mut [
         (outcome result queue.new map.new) (called (writes select byte)) }
 {
     let Some(places) = queue.as_mut_array::<64>() else {
-        return refused(Refusal::LentLength, s);
+        return refused_for(Refusal::LentLength, s);
     };
     let Some(bytes) = map.as_mut_array::<24576>() else {
-        return refused(Refusal::LentLength, s);
+        return refused_for(Refusal::LentLength, s);
     };
     if !ms622424_range::in_range(s, places) {
-        return refused(Refusal::OutOfRange, s);
+        return refused_for(Refusal::OutOfRange, s);
     }
     // Stays: a select is its number of 004's truth table, matched here and at a read; an enum would be that table again.
     match select {
@@ -39,6 +39,6 @@ pub fn zk_b_write(s: State, select: u8, byte: u8, queue: &mut [u64], map: &mut [
             };
             accepted(0, 0, State { control, ..s })
         }
-        _ => refused(Refusal::NoAccess, s),
+        _ => refused_for(Refusal::NoAccess, s),
     }
 }

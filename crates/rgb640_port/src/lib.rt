@@ -12,14 +12,21 @@ use rgb640::{Answer, State};
 use vocabulary::Refusal;
 
 // A call that is refused, and one that is accepted.
-pub fn refused(r: Refusal, s: State) -> Answer
-    ensures { result ≡ refuse (number r) s }
+pub fn refused(n: u8, s: State) -> Answer
+    ensures { result ≡ refuse n s }
 {
     Answer {
-        refusal: u8::from(r),
+        refusal: n,
         value: 0,
         state: s,
     }
+}
+
+// One that is refused for one of the nine refusals.
+pub fn refused_for(r: Refusal, s: State) -> Answer
+    ensures { result ≡ refuse (number r) s }
+{
+    refused(u8::from(r), s)
 }
 
 pub fn accepted(value: u8, s: State) -> Answer

@@ -11,7 +11,7 @@ ghost use Rattle.rgb640.specs.Rgb640.{accept_told, outcome, reads, called, InRan
 use rgb640::{Answer, State};
 use rgb640_fetch::fetch;
 use rgb640_next::next_index;
-use rgb640_port::{accepted, refused};
+use rgb640_port::{accepted, refused_for};
 use rgb640_range::standing_of;
 use vocabulary::Refusal;
 
@@ -54,7 +54,7 @@ fn data_read(s: State, table: &[u16; 3072]) -> Answer
     match s.index {
         0x000E => accepted(s.update, s),
         0x8000..=0x83FF => palette_read(s, table),
-        _ => refused(Refusal::NoIndex, s),
+        _ => refused_for(Refusal::NoIndex, s),
     }
 }
 
@@ -64,12 +64,12 @@ pub fn zk_c_read(s: State, port: u8, table: &[u16]) -> Answer
     ensures { outcome result table.now ≡ called (reads port) (chip s table.now) }
 {
     if let Err(r) = standing_of(s, table.len()) {
-        return refused(r, s);
+        return refused_for(r, s);
     }
     match port {
         4 => accepted((s.index % 256) as u8, s),
         5 => accepted((s.index / 256) as u8, s),
         6 => data_read(s, table.as_array().unwrap()),
-        _ => refused(Refusal::NoAccess, s),
+        _ => refused_for(Refusal::NoAccess, s),
     }
 }

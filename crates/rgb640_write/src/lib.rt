@@ -10,7 +10,7 @@ ghost use Rattle.rgb640.specs.Rgb640.{chip, InRange, outcome, writes, called};
 use rgb640::{Answer, State};
 use rgb640_fetch::prefetch;
 use rgb640_palette::palette_write;
-use rgb640_port::{accepted, refused};
+use rgb640_port::{accepted, refused_for};
 use rgb640_range::standing_of;
 use vocabulary::Refusal;
 
@@ -23,7 +23,7 @@ fn data_write(s: State, byte: u8, table: &mut [u16; 3072]) -> Answer
     match s.index {
         0x000E => accepted(0, State { update: byte, ..s }),
         0x4000..=0x43FF => accepted(0, palette_write(s, byte, table)),
-        _ => refused(Refusal::NoIndex, s),
+        _ => refused_for(Refusal::NoIndex, s),
     }
 }
 
@@ -33,7 +33,7 @@ pub fn zk_c_write(s: State, port: u8, byte: u8, table: &mut [u16]) -> Answer
     ensures { outcome result table.new ≡ called (writes port byte) (chip s table.old) }
 {
     if let Err(r) = standing_of(s, table.len()) {
-        return refused(r, s);
+        return refused_for(r, s);
     }
     let table = table.as_mut_array().unwrap();
     // Stays: a port is its number of section 9.1, matched here and at a read; an enum would be that table once more.
@@ -52,6 +52,6 @@ pub fn zk_c_write(s: State, port: u8, byte: u8, table: &mut [u16]) -> Answer
             accepted(0, prefetch(set, table))
         }
         6 => data_write(s, byte, table),
-        _ => refused(Refusal::NoAccess, s),
+        _ => refused_for(Refusal::NoAccess, s),
     }
 }

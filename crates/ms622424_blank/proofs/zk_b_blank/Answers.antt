@@ -12,13 +12,13 @@ use Rattle.ms622424_blank.proofs.zk_b_blank.Goals as goal
 
 pub returns-in_default : goal.returns-in_default
 returns-in_default c =
-    refuses _ _ _ _ _ c.refused.ensures
+    refuses _ _ _ _ _ c.refused_for.ensures
     (tried (blanks c.args.slots) (view (handed c.args.s c.args.queue.now c.args.map.now)) 1 refl refl
     (short_stands _ (λ l n. c.in_default.ensures.cases l)) (λ e. omega arith))
 
 pub returns-in_default-as_mut_array : goal.returns-in_default-as_mut_array
 returns-in_default-as_mut_array c =
-    refuses _ _ _ _ _ c.refused-in_default-as_mut_array.ensures
+    refuses _ _ _ _ _ c.refused_for-in_default-as_mut_array.ensures
     (tried (blanks c.args.slots) (view (handed c.args.s c.args.queue.now c.args.map.now)) 1 refl refl
     (short_stands _ (λ l n. c.in_default-as_mut_array.ensures.cases n)) (λ e. omega arith))
 
@@ -27,7 +27,7 @@ returns-then-not-in_range c =
     let w = c.in-Some.ensures.cases in
     let v = c.in-Some-as_mut_array.ensures.cases in
     rw v.same
-    (refuses _ _ _ _ _ c.refused-then-not-in_range.ensures
+    (refuses _ _ _ _ _ c.refused_for-then-not-in_range.ensures
     (tried (blanks c.args.slots) (view (handed c.args.s c.args.queue.now c.args.map.now)) 9 refl refl
     (arrays_outside c.args.s c.args.queue.now c.args.map.now _ _ w v _ c.in_range.ensures c.if-not-in_range.true)
     (λ e. omega arith)))
@@ -38,7 +38,7 @@ returns-then-slots-gt65535 c =
     let v = c.in-Some-as_mut_array.ensures.cases in
     let h =
     arrays_in_range c.args.s c.args.queue.now c.args.map.now _ _ w v _ c.in_range.ensures c.if-not-in_range.false in
-    rw v.same (refuses _ _ _ _ _ c.refused-then-slots-gt65535.ensures (blank_too_many _ _ h (omega arith)))
+    rw v.same (refuses _ _ _ _ _ c.refused_for-then-slots-gt65535.ensures (blank_too_many _ _ h (omega arith)))
 
 pub transfer-m-requires : goal.transfer-m-requires
 transfer-m-requires c =

@@ -11,7 +11,7 @@ use Rattle.ms622424_read.proofs.zk_b_read.Goals as goal
 
 pub returns-in-Err : goal.returns-in-Err
 returns-in-Err c =
-    refuses _ _ _ _ _ c.refused.ensures
+    refuses _ _ _ _ _ c.refused_for.ensures
     (tried _ _ _ refl refl c.in-Err.ensures (number_positive c.in-Err.r))
 
 pub unwrap-requires : goal.unwrap-requires
@@ -65,6 +65,6 @@ returns-in-7 c = rw c.in-7.is (c.end_read_mode.ensures _ _ (past _ c.in_default.
 
 pub returns-in_default-select : goal.returns-in_default-select
 returns-in_default-select c =
-    refuses _ _ _ _ _ c.refused-in_default-select.ensures
+    refuses _ _ _ _ _ c.refused_for-in_default-select.ensures
     (not_read _ _ (past _ c.in_default.ensures refl) (search rules) (search rules) (search rules) (search rules)
     (search rules) (search rules) (search rules) (search rules))

@@ -8,11 +8,11 @@ use Rattle.ms622424_places.proofs.Does.{refuses, accepts, fresh_chip}
 use Rattle.ms622424_reset.proofs.zk_b_reset.Goals as goal
 
 pub returns-then-queue-ne64 : goal.returns-then-queue-ne64
-returns-then-queue-ne64 c m = refuses _ _ m _ _ c.refused.ensures (reset_short _ c.if-queue-ne64.true)
+returns-then-queue-ne64 c m = refuses _ _ m _ _ c.refused_for.ensures (reset_short _ c.if-queue-ne64.true)
 
 pub returns-then-s-ge8 : goal.returns-then-s-ge8
 returns-then-s-ge8 c m =
-    refuses _ _ m _ _ c.refused-then-s-ge8.ensures
+    refuses _ _ m _ _ c.refused_for-then-s-ge8.ensures
     (reset_outside _ c.if-queue-ne64.false (λ g. let e = c.then-s-ge8.either in omega arith))
 
 pub returns : goal.returns

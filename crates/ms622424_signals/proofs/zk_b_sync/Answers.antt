@@ -10,11 +10,11 @@ use Rattle.ms622424_signals.proofs.zk_b_sync.Goals as goal
 
 pub returns-in-Err : goal.returns-in-Err
 returns-in-Err c m =
-    refuses _ _ m _ _ c.refused.ensures (signals_tried _ _ c.in-Err.ensures (number_positive c.in-Err.r))
+    refuses _ _ m _ _ c.refused_for.ensures (signals_tried _ _ c.in-Err.ensures (number_positive c.in-Err.r))
 
 pub returns-then-signals-gt15 : goal.returns-then-signals-gt15
 returns-then-signals-gt15 c m =
-    refuses _ _ m _ _ c.refused-then-signals-gt15.ensures
+    refuses _ _ m _ _ c.refused_for-then-signals-gt15.ensures
     (signals_outside _ _ c.in_default.ensures refl (omega arith))
 
 pub piped-requires : goal.piped-requires

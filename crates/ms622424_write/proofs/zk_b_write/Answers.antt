@@ -12,7 +12,7 @@ use Rattle.ms622424_write.proofs.zk_b_write.Goals as goal
 
 pub returns-in_default : goal.returns-in_default
 returns-in_default c =
-    refuses _ _ _ _ _ c.refused.ensures
+    refuses _ _ _ _ _ c.refused_for.ensures
     (tried (writes c.args.select c.args.byte) (view (handed c.args.s c.args.queue.now c.args.map.now)) 1 refl refl
     (short_stands _ (λ l n. c.in_default.ensures.cases l)) (λ e. omega arith))
 
@@ -20,7 +20,7 @@ pub returns-in_default-as_mut_array : goal.returns-in_default-as_mut_array
 returns-in_default-as_mut_array c =
     let w = c.in-Some.ensures.cases in
     rw w.same
-    (refuses _ _ _ _ _ c.refused-in_default-as_mut_array.ensures
+    (refuses _ _ _ _ _ c.refused_for-in_default-as_mut_array.ensures
     (tried (writes c.args.select c.args.byte) (view (handed c.args.s c.args.queue.now c.args.map.now)) 1 refl refl
     (short_stands _ (λ l n. c.in_default-as_mut_array.ensures.cases n)) (λ e. omega arith)))
 
@@ -29,7 +29,7 @@ returns-then-not-in_range c =
     let w = c.in-Some.ensures.cases in
     let v = c.in-Some-as_mut_array.ensures.cases in
     rw (w.same, v.same)
-    (refuses _ _ _ _ _ c.refused-then-not-in_range.ensures
+    (refuses _ _ _ _ _ c.refused_for-then-not-in_range.ensures
     (tried (writes c.args.select c.args.byte) (view (handed c.args.s c.args.queue.now c.args.map.now)) 9 refl refl
     (arrays_outside c.args.s c.args.queue.now c.args.map.now _ _ w v _ c.in_range.ensures c.if-not-in_range.true)
     (λ e. omega arith)))
@@ -93,6 +93,6 @@ returns-in_default-select c =
     let h =
     arrays_in_range c.args.s c.args.queue.now c.args.map.now _ _ w v _ c.in_range.ensures c.if-not-in_range.false in
     rw (w.same, v.same)
-    (refuses _ _ _ _ _ c.refused-in_default-select.ensures
+    (refuses _ _ _ _ _ c.refused_for-in_default-select.ensures
     (not_written _ _ _ h (search rules) (λ e. omega arith) (λ e. omega arith) (λ e. omega arith) (λ e. omega arith)
     (λ e. omega arith)))

@@ -3,7 +3,7 @@ use Rattle.rgb640_write.proofs.Arms.{stopped, high_written}
 use Rattle.rgb640_write.proofs.zk_c_write.Goals as goal
 
 pub returns-in-Err : goal.returns-in-Err
-returns-in-Err c = stopped _ _ _ (search rules) _ _ c.in-Err.r c.in-Err.ensures c.refused.ensures
+returns-in-Err c = stopped _ _ _ (search rules) _ _ c.in-Err.r c.in-Err.ensures c.refused_for.ensures
 
 pub returns-in-5 : goal.returns-in-5
 returns-in-5 c =
