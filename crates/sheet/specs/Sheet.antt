@@ -14,6 +14,7 @@ use Rattle.vocabulary.specs.Reply.{Reply, decoded, telling as telling_of}
 use Rattle.hex_digits.specs.Hex.{hex, number}
 use Rattle.hd153108.specs.Hd153108.{Chip, reserved_bits, short, outside}
 use Rattle.sheet.specs.declared.Refused.{Refused}
+use Rattle.sheet.specs.declared.RefusedBy.{RefusedBy}
 
 -- ---- The keys, in the sheet's order: the five first lines, o0 to o3, c00 to cff
 
@@ -240,6 +241,11 @@ abbrev pub outcome : Answer → List ℕ → Outcome (List ℕ)
 outcome (Ok count) out = accepting 0 count out
 outcome (Err e) out = refusing (number_of e.refusal) e.line out
 
+-- the same where a refusal has any number
+abbrev pub outcome_by : Result ℕ RefusedBy → List ℕ → Outcome (List ℕ)
+outcome_by (Ok count) out = accepting 0 count out
+outcome_by (Err e) out = refusing e.number e.line out
+
 -- what C gets: the one number, as it is read, and the buffer
 pub record Heard : Type 0 where
   pub reply : Reply
@@ -254,3 +260,6 @@ telling x = record { reply = telling_of x; buffer = x.left }
 -- the number n tells an answer, whatever the buffer
 abbrev pub Tells : ℕ → Answer → Type 0
 Tells n a = (out : List ℕ) → heard n out ≡ telling (outcome a out)
+
+abbrev pub TellsBy : ℕ → Result ℕ RefusedBy → Type 0
+TellsBy n a = (out : List ℕ) → heard n out ≡ telling (outcome_by a out)

@@ -8,7 +8,7 @@
 #![tactic(auto)]
 
 ghost use Rattle.std.specs.Prelude.{◌≡◌};
-ghost use Rattle.sheet.specs.Sheet.{Tells, refused_for};
+ghost use Rattle.sheet.specs.Sheet.{Tells, TellsBy, refused_for};
 
 use vocabulary::Refusal;
 
@@ -30,12 +30,32 @@ impl From<Refusal> for Refused {
 // What a call on a buffer answers: how much it wrote, or why it is refused.
 pub type Answer = Result<u16, Refused>;
 
-// The number that tells C an answer.
-pub fn told(a: Answer) -> u64
-    ensures { Tells result a }
+// A refusal by its number, which may be any, and the line that it tells.
+#[derive(Clone, Copy, PartialEq, Eq, Debug)]
+pub struct RefusedBy {
+    pub number: u8,
+    pub line: u16,
+}
+
+// The number that tells C how much was written, or a refusal by any number.
+pub fn told(a: Result<u16, RefusedBy>) -> u64
+    ensures { TellsBy result a }
 {
     match a {
         Ok(count) => reply::packed(0, 0, count, 0),
-        Err(e) => reply::packed(u8::from(e.refusal), 0, 0, e.line),
+        Err(e) => reply::packed(e.number, 0, 0, e.line),
+    }
+}
+
+// The number that tells C an answer.
+pub fn told_answer(a: Answer) -> u64
+    ensures { Tells result a }
+{
+    match a {
+        Ok(count) => told(Ok(count)),
+        Err(e) => told(Err(RefusedBy {
+            number: u8::from(e.refusal),
+            line: e.line,
+        })),
     }
 }

@@ -33,5 +33,5 @@ pub fn sheet_calls(text: &[u8], out: &mut [u8]) -> Answer
 pub fn zk_sheet_to_calls(sheet: &[u8], out: &mut [u8]) -> u64
     ensures { heard result out.new ≡ telling (sheet_to_calls sheet.now out.old) }
 {
-    sheet::told(sheet_calls(sheet, out))
+    sheet::told_answer(sheet_calls(sheet, out))
 }

@@ -22,5 +22,5 @@ pub extern "C" fn zk_sheet_write<'a>(
     ensures { heard result out.new
         ≡ telling (write (chip state colours.now overlays.now) out.old) }
 {
-    sheet::told(write_sheet(state, colours, overlays, out))
+    sheet::told_answer(write_sheet(state, colours, overlays, out))
 }
