@@ -11,11 +11,13 @@ use answers::{News, Text};
 
 // Stays: the refusal is a number, as the chips' C answers have it.
 // A call's refusal, 0 for none, or else what it tells.
+#[inline(always)]
 pub fn told(refusal: u8, news: News) -> Text
     ensures { result ≡ told_text refusal (news_text news) }
 {
-    match refusal {
-        0 => answers_line::line(news),
-        n => answers_line::refused(n),
+    match (refusal, news) {
+        (0, News::Done) => answers::ok(),
+        (0, told) => answers_line::line(told),
+        (n, _) => answers_line::refused(n),
     }
 }

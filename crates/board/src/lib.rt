@@ -26,14 +26,14 @@ pub struct Board {
 }
 
 // The answer to a line: a text, or so many of the page's first bytes.
-#[derive(Drop)]
+#[derive(Clone, Copy)]
 pub enum Answer {
     Line(Text),
     Page(usize),
 }
 
 // A board after a line, and the answer.
-#[derive(Drop)]
+#[derive(Clone, Copy)]
 pub struct Step {
     pub board: Board,
     pub answer: Answer,

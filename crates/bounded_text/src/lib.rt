@@ -8,18 +8,30 @@ ghost use Rattle.std.specs.Prelude.{◌≡◌, List, ℕ, [], ◌∷◌, ◌++�
 
 use std::marker::Model;
 
-#[derive(Drop)]
+#[derive(Clone, Copy)]
 pub struct Text<const N: usize> {
     bytes: [u8; N],
     len: usize,
 }
 
 impl<const N: usize> Model for Text<N> {
+    ghost use Rattle.std.specs.Prelude.{◌≡◌, List, ℕ, ◌++◌, ◌≤◌, ◌-◌, length, take, replicate};
+    ghost use Rattle.std.proofs.Common.{arith, length-take-le};
+    ghost use Rattle.bounded_text.specs.Tail.{tail_back};
+
     ghost Value = { List ℕ };
 
     ghost view = { λ t. take t.len t.bytes };
 
-    ghost invariant = { λ t. t.len ≤ N };
+    ghost invariant = { λ t. (t.len ≤ N) × (length t.bytes ≡ N)
+        × (t.bytes ≡ take t.len t.bytes ++ replicate (N - t.len) 0) };
+
+    ghost inverse = { λ l. record { bytes = l ++ replicate (N - length l) 0; len = length l } };
+
+    ghost inverse_ok = { λ t h i. record {
+      bytes = tail_back N t.len t.bytes h.0 h.1 h.2 i;
+      len = length-take-le t.len t.bytes (omega (arith, h.0, h.1)) i;
+    } };
 }
 
 impl<const N: usize> Text<N> {
@@ -34,10 +46,12 @@ impl<const N: usize> Text<N> {
     }
 
     // The first bytes of an array.
-    pub fn first(bytes: [u8; N], len: usize) -> Self
+    pub fn first(mut bytes: [u8; N], len: usize) -> Self
         requires { len ≤ N }
         ensures { result ≡ take len bytes.entry }
     {
+        let all = &mut bytes[..];
+        all[len..].fill(0);
         Text { bytes, len }
     }
 

@@ -13,7 +13,7 @@ ghost use Rattle.feed_take.specs.Fed.{FedTook};
 use board::{Board, Step, says};
 
 // The board after some bytes with what they answer, how many bytes of a line are held, and how many were taken.
-#[derive(Drop)]
+#[derive(Clone, Copy)]
 pub struct Fed {
     pub step: Step,
     pub len: usize,

@@ -18,7 +18,7 @@ use std::io;
 use std::io::Write;
 use std::marker::Model;
 
-#[derive(Drop)]
+#[derive(Clone, Copy)]
 pub struct Input<const N: usize> {
     bytes: [u8; N],
     at: usize,
@@ -26,17 +26,36 @@ pub struct Input<const N: usize> {
 }
 
 impl<const N: usize> Model for Input<N> {
-    ghost Value = { List ℕ };
+    ghost use Rattle.std.specs.Prelude.{◌≡◌, ℕ, ◌+◌, ◌≤◌, List, ◌++◌, length, take, drop, slice_range};
+    ghost use Rattle.input.specs.Parts.{Parts, parts_back, front_back, unread_back};
 
-    ghost view = { λ i. slice_range i.bytes i.at i.end };
+    ghost Value = { Parts };
 
-    ghost invariant = { λ i. (i.at ≤ i.end) × (i.end ≤ N) };
+    ghost view = { λ i. record {
+      taken = take i.at i.bytes;
+      unread = slice_range i.bytes i.at i.end;
+      spare = drop i.end i.bytes;
+    } };
+
+    ghost invariant = { λ i. (i.at ≤ i.end) × (i.end ≤ N) × (length i.bytes ≡ N) };
+
+    ghost inverse = { λ p. record {
+      bytes = p.taken ++ (p.unread ++ p.spare);
+      at = length p.taken;
+      end = length p.taken + length p.unread;
+    } };
+
+    ghost inverse_ok = { λ i h k. record {
+      bytes = parts_back N i.at i.end i.bytes h.0 h.1 h.2 k;
+      at = front_back N i.at i.end i.bytes h.0 h.1 h.2 k;
+      end = unread_back N i.at i.end i.bytes h.0 h.1 h.2 k;
+    } };
 }
 
 impl<const N: usize> Input<N> {
     // Nothing read yet.
     pub fn new() -> Self
-        ensures { result ≡ [] }
+        ensures { result.unread ≡ [] }
     {
         Input {
             bytes: [0; N],
@@ -47,7 +66,7 @@ impl<const N: usize> Input<N> {
 
     // What was read and not yet taken.
     pub fn rest(&self) -> &[u8]
-        ensures { result.now ≡ self.now }
+        ensures { result.now ≡ self.now.unread }
     {
         let all = &self.bytes[..];
         &all[self.at..self.end]
@@ -55,7 +74,7 @@ impl<const N: usize> Input<N> {
 
     // So many of them are taken, or all.
     pub fn take(&mut self, n: usize)
-        ensures { self.new ≡ drop n self.old }
+        ensures { self.new.unread ≡ drop n self.old.unread }
     {
         self.at += n.min(self.end - self.at);
     }
@@ -66,12 +85,12 @@ impl<const N: usize> Input<N> {
         from: &mut R,
         _out: &Printer<M>,
     ) -> io::Result<bool>
-        requires { Answered self.old _out.now }
-        ensures more { IfOk result (λ more. IsTrue more ↔ (0 < length self.new)) }
+        requires { Answered self.old.unread _out.now }
+        ensures more { IfOk result (λ more. IsTrue more ↔ (0 < length self.new.unread)) }
         ensures keeps { OnOk result
-            (Keeps (coming (R.remaining from.old) self.old) (coming (R.remaining from.new) self.new)) }
+            (Keeps (coming (R.remaining from.old) self.old.unread) (coming (R.remaining from.new) self.new.unread)) }
         ensures ends { 0 < N → IfOk result (λ more. Ends more (R.remaining from.new)) }
-        ensures err { OnErr result (self.new ≡ []) }
+        ensures err { OnErr result (self.new.unread ≡ []) }
     {
         let all = &mut self.bytes[..];
         let n = from.read(all)?;
@@ -87,12 +106,12 @@ impl<const N: usize> Input<N> {
         to: &mut W,
         out: &mut Printer<M>,
     ) -> io::Result<bool>
-        ensures ok { IfOk result (λ more. Next self.old self.new out.old out.new more) }
-        ensures err { OnErr result (self.old ≡ []) }
-        ensures stays { OnErr result (self.new ≡ self.old) }
+        ensures ok { IfOk result (λ more. Next self.old.unread self.new.unread out.old out.new more) }
+        ensures err { OnErr result (self.old.unread ≡ []) }
+        ensures stays { OnErr result (self.new.unread ≡ self.old.unread) }
         ensures waits { OnErr result ((out.new ≡ out.old) ⊎ (out.new ≡ [])) }
         ensures keeps { OnOk result
-            (Keeps (coming (R.remaining from.old) self.old) (coming (R.remaining from.new) self.new)) }
+            (Keeps (coming (R.remaining from.old) self.old.unread) (coming (R.remaining from.new) self.new.unread)) }
         ensures ends { 0 < N → IfOk result (λ more. Ends more (R.remaining from.new)) }
         ensures kept { OnOk result
             (Keeps (held (W.contents to.old) out.old) (held (W.contents to.new) out.new)) }

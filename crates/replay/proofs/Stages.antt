@@ -4,7 +4,7 @@ use Rattle.std.proofs.Common.{Some, Result, Ok, Err, OnOk, Bool, true, false, lt
 use Rattle.std.proofs.Common.{append_assoc, append-nil, length-append, length-take, zero, suc, ◌∷◌}
 use Rattle.std.specs.declared.option.Option.{Option}
 use Rattle.std.specs.Io.KnownBytes.{Appends, Keeps, IsAtEnd, prepend_known, append_known}
-use Rattle.std.proofs.KnownBytes.{Appends-nil, Appends-trans, Appends-kept}
+use Rattle.std.proofs.KnownBytes.{Appends-trans, Appends-kept}
 use Rattle.std.proofs.lemmas.List.{take-append-drop}
 use borrow.Author.Tests.{ltb-false}
 use Rattle.vocabulary.proofs.Choice.{picks_first, picks_second, cases}
@@ -56,20 +56,16 @@ at_end : (a : Option (List ℕ)) (more : List ℕ) → a ≡ Some more → IsAtE
 at_end None more e p = absurd (let z : ⊥ = cc in z)
 at_end (Some x) more e p = sym (some_of x more e) ∙ p
 
--- a last line's end is taken whole
-line_end : (len : ℕ) → 0 < len → take (up_to (10 ∷ [])) (10 ∷ []) ≡ last_end len
+-- what the log's end puts to the board is taken whole
+last_whole : (len : ℕ) → take (up_to (last_end len)) (last_end len) ≡ last_end len
 unfolding up_to before pick
-line_end zero p = absurd (omega arith)
-line_end (suc len) p = refl
+last_whole zero = refl
+last_whole (suc len) = refl
 
-pub some_line : (a b : Option (List ℕ)) (len : ℕ) (d : Desk) → 0 < len
-    → Appends a b (fed (take (up_to (10 ∷ [])) (10 ∷ [])) d).text → Appends a b (fed (last_end len) d).text
-some_line a b len d h p = subst (λ l. Appends a b (fed l d).text) (line_end len h) p
-
-pub no_line : (a : Option (List ℕ)) (len : ℕ) (d : Desk) → len ≤ 0 → Appends a a (fed (last_end len) d).text
-unfolding fed
-no_line a zero d p = Appends-nil a
-no_line a (suc len) d p = absurd (omega arith)
+pub last_line : (a b : Option (List ℕ)) (len : ℕ) (text : List ℕ) (d : Desk) → text ≡ last_end len
+    → Appends a b (fed (take (up_to text) text) d).text → Appends a b (fed (last_end len) d).text
+last_line a b len text d is h =
+    subst (λ l. Appends a b (fed l d).text) (ap (λ t. take (up_to t) t) is ∙ last_whole len) h
 
 -- where nothing is left to take
 pub none_left : (t : List ℕ) (more : Bool) → more ≡ false → (0 < length t → more ≡ true) → t ≡ []

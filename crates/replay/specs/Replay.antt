@@ -8,10 +8,11 @@ use Rattle.board.specs.Board.{whole, started}
 use Rattle.hold.specs.Hold.{hold}
 use Rattle.feed.specs.Feed.{Desk, desk, fed}
 use Rattle.replay.specs.declared.Stand.{Stand}
+use Rattle.replay.specs.declared.Lent.{Lent}
 
 -- the board with its tables and the page, and the bytes of a line that are held
-abbrev pub desk_of : Stand → Desk
-desk_of s = desk (whole s.board s.colours s.overlays s.queue s.map s.table s.page) (hold s.hold s.len)
+abbrev pub desk_of : Stand → Lent → Desk
+desk_of s l = desk (whole s.board l.colours l.overlays l.queue l.map l.table l.page) (hold l.hold s.len)
 
 -- an LF behind a last line that has none: `len` bytes of it are held
 abbrev pub last_end : ℕ → List ℕ

@@ -19,19 +19,25 @@ ghost use Rattle.printer.specs.Held.{held};
 ghost use Rattle.input.specs.Input.{coming};
 ghost use Rattle.replay.specs.Replay.{desk_of, first_desk, IsBlack, last_end, answers, Replays};
 
-use board::{Answer, Board};
+use board::{Answer, Board, Step};
 use feed_take::Fed;
 use input::Input;
 use printer::Printer;
 use std::io;
 use std::io::{Read, Write};
 
-// The board with its tables and the page, and the bytes of a line that are held.
-#[derive(Drop)]
+// The board's states, and how many bytes of a line are held. What is lent stands apart, so that a turn need not store all
+// of them.
+#[derive(Clone, Copy)]
 struct Stand {
     board: Board,
-    hold: [u8; 16],
     len: usize,
+}
+
+// The room for a line's bytes, the tables and the page.
+#[derive(Clone, Copy)]
+struct Lent {
+    hold: [u8; 16],
     colours: [u8; 768],
     overlays: [u8; 12],
     queue: [u64; 64],
@@ -41,21 +47,24 @@ struct Stand {
 }
 
 // A board after its first reset, with tables of zeros; no byte is held.
-fn begun() -> Stand
-    ensures { (a : AChip) (c : CChip) → IsBlack a c → desk_of result ≡ first_desk a c }
+fn begun() -> (Stand, Lent)
+    ensures { (a : AChip) (c : CChip) → IsBlack a c → desk_of result.0 result.1 ≡ first_desk a c }
 {
     let queue = [0; 64];
-    Stand {
+    let stand = Stand {
         board: board_start::start(&queue),
-        hold: [0; 16],
         len: 0,
+    };
+    let lent = Lent {
+        hold: [0; 16],
         colours: [0; 768],
         overlays: [0; 12],
         queue,
         map: [0; 24576],
         table: [0; 3072],
         page: [0; 2134],
-    }
+    };
+    (stand, lent)
 }
 
 // An answer behind what waits: a text, or the page's first bytes.
@@ -75,45 +84,44 @@ fn say<W: Write>(
 }
 
 // A text up to its first LF put to the board, and what that answers behind what waits: how many bytes were taken.
+#[inline(always)]
 fn turn<W: Write>(
     to: &mut W,
     s: &mut Stand,
+    lent: &mut Lent,
     text: &[u8],
     out: &mut Printer<65536>,
 ) -> io::Result<usize>
     ensures taken { IfOk result (λ n. n ≡ up_to text.now) }
     ensures leaves { OnOk result
-        (desk_of s.new ≡ (fed (first_of (up_to text.now) text.now) (desk_of s.old)).left) }
+        (desk_of s.new lent.new ≡ (fed (first_of (up_to text.now) text.now) (desk_of s.old lent.old)).left) }
     ensures says { OnOk result (Appends (held (W.contents to.old) out.old) (held (W.contents to.new) out.new)
-        (fed (first_of (up_to text.now) text.now) (desk_of s.old)).text) }
+        (fed (first_of (up_to text.now) text.now) (desk_of s.old lent.old)).text) }
 {
     let Fed { step, len, taken } = feed_take::take(
         s.board,
         s.len,
         text,
-        &mut s.hold,
-        &mut s.colours,
-        &mut s.overlays,
-        &mut s.queue,
-        &mut s.map,
-        &mut s.table,
-        &mut s.page,
+        &mut lent.hold,
+        &mut lent.colours,
+        &mut lent.overlays,
+        &mut lent.queue,
+        &mut lent.map,
+        &mut lent.table,
+        &mut lent.page,
     );
-    s.board = step.board;
+    let Step { board, answer } = step;
+    s.board = board;
     s.len = len;
-    say(to, &step.answer, &s.page, out)?;
+    say(to, &answer, &lent.page, out)?;
     Ok(taken)
 }
 
-// The log's end: a last line without its LF is put to the board as well, and what waits is printed.
-fn end<W: Write>(to: &mut W, s: &mut Stand, out: &mut Printer<65536>) -> io::Result<()>
-    ensures { OnOk result (Appends (held (W.contents to.old) out.old) (W.contents to.new)
-        (fed (last_end (desk_of s.old).hold.len) (desk_of s.old)).text) }
+// What the log's end puts to the board: a last line's LF, where one is held without it.
+fn last(len: usize) -> &'static [u8]
+    ensures { result.now ≡ last_end len }
 {
-    if s.len > 0 {
-        turn(to, s, b"\n", out)?;
-    }
-    out.flush(to)
+    if len > 0 { b"\n" } else { b"" }
 }
 
 // The whole log.
@@ -122,20 +130,22 @@ fn replay<R: Read, W: Write>(
     to: &mut W,
     input: &mut Input<65536>,
     s: &mut Stand,
+    lent: &mut Lent,
     out: &mut Printer<65536>,
 ) -> io::Result<()>
-    ensures { (log : List ℕ) → coming (R.remaining from.old) input.old ≡ Some log → length log < 2 ^ 64 - 1
-        → OnOk result (Appends (held (W.contents to.old) out.old) (W.contents to.new) (answers log (desk_of s.old))) }
+    ensures { (log : List ℕ) → coming (R.remaining from.old) input.old.unread ≡ Some log → length log < 2 ^ 64 - 1
+        → OnOk result (Appends (held (W.contents to.old) out.old) (W.contents to.new) (answers log (desk_of s.old lent.old))) }
 {
     for _turn in 0..u64::MAX {
         let more = input.next(from, to, out)?;
+        let text = if more { input.rest() } else { last(s.len) };
+        let taken = turn(to, s, lent, text, out)?;
         if !more {
-            return end(to, s, out);
+            return out.flush(to);
         }
-        let taken = turn(to, s, input.rest(), out)?;
         input.take(taken);
     }
-    end(to, s, out)
+    out.flush(to)
 }
 
 // A log, from a board after its first reset.
@@ -143,11 +153,13 @@ fn run<R: Read, W: Write>(from: &mut R, to: &mut W) -> io::Result<()>
     ensures { OnOk result
         (IfSome (R.remaining from.old) (Replays (W.contents to.old) (W.contents to.new))) }
 {
+    let (mut stand, mut lent) = begun();
     replay(
         from,
         to,
         &mut Input::new(),
-        &mut begun(),
+        &mut stand,
+        &mut lent,
         &mut Printer::new(),
     )
 }

@@ -15,7 +15,7 @@ use answers::{News, Text};
 use vocabulary::{Colour, Looked, Shown};
 
 // A chip's state after a call, and the answer.
-#[derive(Drop)]
+#[derive(Clone, Copy)]
 pub struct Taken<S> {
     pub state: S,
     pub text: Text,
