@@ -1,5 +1,5 @@
 -- What is left of a part of a list where some of it is taken, or all. Assumes nothing.
-use Rattle.std.proofs.Common.{ℕ, ◌+◌, ◌-◌, ◌<◌, ◌≤◌, ◌≡◌, List, [], length, take, drop, min, slice_range}
+use Rattle.std.proofs.Common.{ℕ, ◌+◌, ◌-◌, ◌<◌, ◌≤◌, ◌≡◌, List, take, drop, min, slice_range}
 use Rattle.std.proofs.Common.{Bool, true, false, ltb, refl, sym, ap, ◌∙◌, arith}
 use Rattle.std.proofs.Math.Nat.{min-eq_left, min-eq_right}
 use Rattle.std.proofs.lemmas.List.{drop-take, drop-drop, drop_all, length-take}
