@@ -1,4 +1,4 @@
--- When more may be read, and what comes. An input is the list of the bytes that were read and are not yet taken.
+-- When more may be read, and what comes: of an input, the bytes that were read and are not yet taken.
 use Rattle.std.specs.Prelude.{ℕ, ◌<◌, ◌≡◌, Bool, IsTrue, ◌↔◌, true, false, List, [], length}
 use Rattle.std.specs.declared.option.Option.{Option}
 use Rattle.std.specs.Io.KnownBytes.{IsAtEnd, prepend_known}

@@ -1,10 +1,11 @@
 // An input in pieces, beside an output that waits in a printer: what was read is answered before more is read.
 //
 // The replay's description decides: a tool may wait for an answer before it sends the next line. In a contract an input
-// is the list of the bytes that were read and not yet taken. specs/Input.antt says when a read may be made (`Answered`);
-// `read` asks for it, so that a read before is refused. It says too which bytes come (`coming`), for a reader that says
-// which it has left. Where the output can't be written any more, or the input can't be read, that error is answered, and
-// nothing more is read. No heap is a rule of the project, so that std's BufReader, which has one, does not serve.
+// is its bytes in three parts (specs/Parts.antt), of which `unread` are those that were read and not yet taken.
+// specs/Input.antt says when a read may be made (`Answered`); `read` asks for it, so that a read before is refused. It
+// says too which bytes come (`coming`), for a reader that says which it has left. Where the output can't be written any
+// more, or the input can't be read, that error is answered, and nothing more is read. No heap is a rule of the project,
+// so that std's BufReader, which has one, does not serve.
 #![tactic(auto)]
 
 ghost use Rattle.std.specs.Prelude.{◌≡◌, ◌<◌, ◌≤◌, ◌⊎◌, List, ℕ, [], length, drop, slice_range};

@@ -26,8 +26,8 @@ use printer::Printer;
 use std::io;
 use std::io::{Read, Write};
 
-// The board's states, and how many bytes of a line are held. What is lent stands apart, so that a turn need not store all
-// of them.
+// The board's states, and how many bytes of a line are held. What is lent stands apart: beside it each turn would store
+// all of the states.
 #[derive(Clone, Copy)]
 struct Stand {
     board: Board,
@@ -134,7 +134,8 @@ fn replay<R: Read, W: Write>(
     out: &mut Printer<65536>,
 ) -> io::Result<()>
     ensures { (log : List ℕ) → coming (R.remaining from.old) input.old.unread ≡ Some log → length log < 2 ^ 64 - 1
-        → OnOk result (Appends (held (W.contents to.old) out.old) (W.contents to.new) (answers log (desk_of s.old lent.old))) }
+        → OnOk result (Appends (held (W.contents to.old) out.old) (W.contents to.new)
+        (answers log (desk_of s.old lent.old))) }
 {
     for _turn in 0..u64::MAX {
         let more = input.next(from, to, out)?;
