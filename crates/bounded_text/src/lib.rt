@@ -1,7 +1,8 @@
 // A text of at most N bytes, which lie in the value itself.
 //
 // No heap is a rule of the project; a line of a sheet and an answer of a replay are such texts. In a contract a text is
-// the list of its bytes. Not modelled: what the bytes behind a text's own hold.
+// the list of its bytes; behind them lie zeros, so that the list gives the value back. Not modelled: what a text is
+// where there was no room for it.
 #![tactic(auto)]
 
 ghost use Rattle.std.specs.Prelude.{◌≡◌, List, ℕ, [], ◌∷◌, ◌++◌, ◌<◌, ◌≤◌, length, take};
@@ -45,7 +46,7 @@ impl<const N: usize> Text<N> {
         }
     }
 
-    // The first bytes of an array.
+    // The first bytes of an array; those behind them become zeros.
     pub fn first(mut bytes: [u8; N], len: usize) -> Self
         requires { len ≤ N }
         ensures { result ≡ take len bytes.entry }

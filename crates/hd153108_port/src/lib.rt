@@ -12,7 +12,7 @@ ghost use Rattle.hd153108.specs.Hd153108.{colour, overlay, next, refuse, accept}
 use hd153108::{Answer, State};
 use vocabulary::Refusal;
 
-// A call that is refused, and one that is accepted.
+// A refusal: the state as given, value 0.
 // Stays: each chip's Answer is a C struct of its own, and a generic one can't be exported, so none is shared.
 pub fn refused(n: u8, s: State) -> Answer
     ensures { result ≡ refuse n s }
@@ -24,13 +24,14 @@ pub fn refused(n: u8, s: State) -> Answer
     }
 }
 
-// One that is refused for one of the nine refusals.
+// The same, for one of the nine refusals.
 pub fn refused_for(r: Refusal, s: State) -> Answer
     ensures { result ≡ refuse (number r) s }
 {
     refused(u8::from(r), s)
 }
 
+// An accepted call: what it answers, and the state after it.
 pub fn accepted(v: u8, s: State) -> Answer
     ensures { result ≡ accept v s }
 {

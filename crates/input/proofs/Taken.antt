@@ -1,13 +1,9 @@
 -- What is left of a part of a list where some of it is taken, or all. Assumes nothing.
 use Rattle.std.proofs.Common.{ℕ, ◌+◌, ◌-◌, ◌<◌, ◌≤◌, ◌≡◌, List, take, drop, min, slice_range}
-use Rattle.std.proofs.Common.{Bool, true, false, ltb, refl, sym, ap, ◌∙◌, arith}
+use Rattle.std.proofs.Common.{⊎_elim, sym, ap, ◌∙◌, arith}
 use Rattle.std.proofs.Math.Nat.{min-eq_left, min-eq_right}
+use Rattle.std.proofs.lemmas.Bool.{cases_lt}
 use Rattle.std.proofs.lemmas.List.{drop-take, drop-drop, drop_all, length-take}
-use borrow.Author.Tests.{ltb-true, ltb-false}
-
-either : (b : Bool) {P : Type 0} → (b ≡ true → P) → (b ≡ false → P) → P
-either true f g = f refl
-either false f g = g refl
 
 module _ (xs : List ℕ) (n at end : ℕ) (low : at ≤ end) where
   all : end - at < n → slice_range xs (at + min n (end - at)) end ≡ drop n (slice_range xs at end)
@@ -28,7 +24,4 @@ module _ (xs : List ℕ) (n at end : ℕ) (low : at ≤ end) where
       ∙ ap (λ m. drop n (take m (drop at xs))) whole
 
   pub taken : slice_range xs (at + min n (end - at)) end ≡ drop n (slice_range xs at end)
-  taken =
-      either (ltb (end - at) n)
-      (λ e. all (ltb-true (end - at) n e))
-      (λ e. some (ltb-false (end - at) n e))
+  taken = ⊎_elim all some (cases_lt (end - at) n)

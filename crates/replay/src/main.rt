@@ -84,6 +84,7 @@ fn say<W: Write>(
 }
 
 // A text up to its first LF put to the board, and what that answers behind what waits: how many bytes were taken.
+// Inlined: as a call it would hand the board's states over and back at each turn.
 #[inline(always)]
 fn turn<W: Write>(
     to: &mut W,

@@ -11,7 +11,7 @@ ghost use Rattle.rgb640.specs.Rgb640.{accept, refuse};
 use rgb640::{Answer, State};
 use vocabulary::Refusal;
 
-// A call that is refused, and one that is accepted.
+// A refusal: the state as given, value 0.
 pub fn refused(n: u8, s: State) -> Answer
     ensures { result ≡ refuse n s }
 {
@@ -22,13 +22,14 @@ pub fn refused(n: u8, s: State) -> Answer
     }
 }
 
-// One that is refused for one of the nine refusals.
+// The same, for one of the nine refusals.
 pub fn refused_for(r: Refusal, s: State) -> Answer
     ensures { result ≡ refuse (number r) s }
 {
     refused(u8::from(r), s)
 }
 
+// An accepted call: what it answers, and the state after it.
 pub fn accepted(value: u8, s: State) -> Answer
     ensures { result ≡ accept value s }
 {

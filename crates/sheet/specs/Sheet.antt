@@ -261,5 +261,6 @@ telling x = record { reply = telling_of x; buffer = x.left }
 abbrev pub Tells : ℕ → Answer → Type 0
 Tells n a = (out : List ℕ) → heard n out ≡ telling (outcome a out)
 
+-- the same where a refusal has any number
 abbrev pub TellsBy : ℕ → Result ℕ RefusedBy → Type 0
 TellsBy n a = (out : List ℕ) → heard n out ≡ telling (outcome_by a out)
