@@ -58,6 +58,7 @@ impl<const N: usize> Printer<N> {
     }
 
     // Bytes behind those that wait.
+    #[inline(always)]
     fn put(&mut self, bytes: &[u8])
         requires { length self.old + length bytes.now ≤ N }
         ensures { self.new ≡ self.old ++ bytes.now }
@@ -68,16 +69,39 @@ impl<const N: usize> Printer<N> {
         self.waiting = end;
     }
 
-    // The same of any number of bytes, in one piece: where they find no room, what waits is printed first.
+    // The same where there may be no room: what waits is printed where it leaves none for 16 bytes, and bytes that find
+    // no room fill the buffer, which is printed before the rest.
+    #[inline(never)]
+    fn print<W: Write>(&mut self, to: &mut W, bytes: &[u8]) -> io::Result<()>
+        ensures { OnOk result (Appends (held (W.contents to.old) self.old)
+            (held (W.contents to.new) self.new) bytes.now) }
+    {
+        if N - self.waiting < 16 {
+            self.flush(to)?;
+        }
+        let room = N - self.waiting;
+        if bytes.len() <= room {
+            self.put(bytes);
+            return Ok(());
+        }
+        let (first, rest) = bytes.split_at(room);
+        self.put(first);
+        self.flush(to)?;
+        if rest.len() > N {
+            return to.write_all(rest);
+        }
+        self.put(rest);
+        Ok(())
+    }
+
+    // The same of any number of bytes.
     pub fn say<W: Write>(&mut self, to: &mut W, bytes: &[u8]) -> io::Result<()>
         ensures { OnOk result (Appends (held (W.contents to.old) self.old)
             (held (W.contents to.new) self.new) bytes.now) }
     {
-        if bytes.len() > N - self.waiting {
-            self.flush(to)?;
-            if bytes.len() > N {
-                return to.write_all(bytes);
-            }
+        let room = N - self.waiting;
+        if room < 16 || bytes.len() > room {
+            return self.print(to, bytes);
         }
         self.put(bytes);
         Ok(())

@@ -77,14 +77,15 @@ fn say<W: Write>(
     ensures { (text : List ℕ) → Answered answer.now page.now text → OnOk result
         (Appends (held (W.contents to.old) out.old) (held (W.contents to.new) out.new) text) }
 {
-    match answer {
-        Answer::Line(text) => out.say(to, text.as_slice()),
-        Answer::Page(n) => out.say(to, &page[..page.len().min(*n)]),
-    }
+    let bytes = match answer {
+        Answer::Line(text) => text.as_slice(),
+        Answer::Page(n) => &page[..page.len().min(*n)],
+    };
+    out.say(to, bytes)
 }
 
 // A text up to its first LF put to the board, and what that answers behind what waits: how many bytes were taken.
-// Inlined: as a call it would hand the board's states over and back at each turn.
+// Inlined: as a call it would load and store the board's states at each turn.
 #[inline(always)]
 fn turn<W: Write>(
     to: &mut W,
