@@ -69,8 +69,23 @@ impl<const N: usize> Printer<N> {
         self.waiting = end;
     }
 
-    // The same where there may be no room: what waits is printed where it leaves none for 16 bytes, and bytes that find
-    // no room fill the buffer, which is printed before the rest.
+    // The same of any number of bytes, in one piece: where they find no room, what waits is printed first.
+    pub fn say<W: Write>(&mut self, to: &mut W, bytes: &[u8]) -> io::Result<()>
+        ensures { OnOk result (Appends (held (W.contents to.old) self.old)
+            (held (W.contents to.new) self.new) bytes.now) }
+    {
+        if bytes.len() > N - self.waiting {
+            self.flush(to)?;
+            if bytes.len() > N {
+                return to.write_all(bytes);
+            }
+        }
+        self.put(bytes);
+        Ok(())
+    }
+
+    // The same in other writes: what waits is printed where it leaves no room for 16 bytes, and bytes that find no room
+    // fill the buffer, which is printed before the rest.
     #[inline(never)]
     fn print<W: Write>(&mut self, to: &mut W, bytes: &[u8]) -> io::Result<()>
         ensures { OnOk result (Appends (held (W.contents to.old) self.old)
@@ -94,8 +109,8 @@ impl<const N: usize> Printer<N> {
         Ok(())
     }
 
-    // The same of any number of bytes.
-    pub fn say<W: Write>(&mut self, to: &mut W, bytes: &[u8]) -> io::Result<()>
+    // The same in the writes of `print`, without a call of it where there is room.
+    pub fn say_filling<W: Write>(&mut self, to: &mut W, bytes: &[u8]) -> io::Result<()>
         ensures { OnOk result (Appends (held (W.contents to.old) self.old)
             (held (W.contents to.new) self.new) bytes.now) }
     {
@@ -107,3 +122,6 @@ impl<const N: usize> Printer<N> {
         Ok(())
     }
 }
+
+#[cfg(test)]
+mod tests;

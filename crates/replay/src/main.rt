@@ -81,7 +81,7 @@ fn say<W: Write>(
         Answer::Line(text) => text.as_slice(),
         Answer::Page(n) => &page[..page.len().min(*n)],
     };
-    out.say(to, bytes)
+    out.say_filling(to, bytes)
 }
 
 // A text up to its first LF put to the board, and what that answers behind what waits: how many bytes were taken.
